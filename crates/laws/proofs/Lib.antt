@@ -1,0 +1,13 @@
+-- What follows from the definitions of `rules`, each law stated once.
+pub mod Tests
+pub mod Order
+pub mod Nearest
+pub mod Keyed
+pub mod Edges
+pub mod Labels
+pub mod Search
+pub mod Whole
+pub mod Demand3
+pub mod Walk
+pub mod Distances
+pub mod Refusals

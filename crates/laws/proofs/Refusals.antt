@@ -1,0 +1,143 @@
+-- Refusals in their order: what an answer of 0 tells, and how an entry's order goes on from one that it shares. Assumes nothing.
+use Prim.Native.Nat.{ℕ, zero, suc, _+_, _*_, _≤_, _<_}
+use mathlib.Core.Path.{_≡_, refl, sym, _∙_}
+use mathlib.Core.Logic.{_≢_}
+use mathlib.Core.Bool.{Bool, true, false, not, cond, _||_, true≢false}
+use mathlib.Core.List.{List, [], _∷_}
+use native.Mathlib.Nat.{mul-le-mul-right, mul-le-mul, suc-mul}
+use native.Mathlib.Omega.{arith}
+use lib.Dec.{eqb, leb, ltb}
+use borrow.Author.Tests.{ltb-false, leb-false, eqb-true, not-false}
+use Rattle.rules.specs.Outcome.{Outcome, gives, refused, outcome, after, firstOf, orElse}
+use Rattle.rules.specs.Refusals.{outside, differ, setRefusal, pointRefusal, buildRefusal, searchRefusal, walkRefusal, refuse4, refuse5, refuse6, refuse7, refuse8, refuse9, refuse10}
+use Rattle.laws.proofs.Tests.{or-off, or-off-r}
+
+-- ---- one after the other
+
+pub else-none : {r : ℕ} → r ≡ 0 → (x : ℕ) → orElse r x ≡ x
+unfolding orElse
+else-none e x = rw (e, orElse)
+
+pub else-some : {r : ℕ} → r ≢ 0 → (x : ℕ) → orElse r x ≡ r
+unfolding orElse
+else-some {r} d x = go r d
+  where
+    go : (r : ℕ) → r ≢ 0 → orElse r x ≡ r
+    go zero d = absurd (d refl)
+    go (suc r) d = refl
+
+-- none was given, so neither was
+pub else-both : (r x : ℕ) → orElse r x ≡ 0 → (r ≡ 0) × (x ≡ 0)
+unfolding orElse
+else-both zero x e = (refl, e)
+else-both (suc r) x e = absurd (none e)
+  where
+    none : suc r ≡ 0 → ⊥
+    none e = omega arith
+
+-- a test that gave no number was false
+pub skipped : (t : Bool) (k r : ℕ) → cond t (suc k) r ≡ 0 → (t ≡ false) × (r ≡ 0)
+skipped true k r e = absurd (none e)
+  where
+    none : suc k ≡ 0 → ⊥
+    none e = omega arith
+skipped false k r e = (refl, e)
+
+-- ---- what a test that is false tells
+
+pub inside : (low high x : ℕ) → outside low high x ≡ false → (low ≤ x) × (x ≤ high)
+inside low high x e =
+    (ltb-false x low (or-off (ltb x low) (ltb high x) e), ltb-false high x (or-off-r (ltb x low) (ltb high x) e))
+
+pub alike : (x y : ℕ) → differ x y ≡ false → x ≡ y
+alike x y e = eqb-true x y (not-false (eqb x y) e)
+
+-- ---- a set
+
+-- what is known of a set that is not refused
+pub record SetOk (n d len : ℕ) : Type 0 where
+  pub some-points : 1 ≤ n
+  pub few-points : n ≤ 128
+  pub some-coordinates : 1 ≤ d
+  pub few-coordinates : d ≤ 64
+  pub whole : len ≡ n * d
+
+pub set-ok : (n d len : ℕ) → setRefusal n d len ≡ 0 → SetOk n d len
+unfolding setRefusal
+set-ok n d len e =
+    let a = skipped (outside 1 128 n) 0 _ e in
+    let b = skipped (outside 1 64 d) 1 _ (a .1) in
+    let c = skipped (differ len (n * d)) 2 _ (b .1) in
+    let p = inside 1 128 n (a .0) in
+    let q = inside 1 64 d (b .0) in
+    record {
+      some-points = p .0;
+      few-points = p .1;
+      some-coordinates = q .0;
+      few-coordinates = q .1;
+      whole = alike len (n * d) (c .0);
+    }
+
+-- the coordinates of an id of the set are in the vectors
+pub room : {n d len : ℕ} (id : ℕ) → SetOk n d len → id < n → id * d + d ≤ len
+room {d = d} id ok l = omega (arith, ok .whole, mul-le-mul-right d l, suc-mul id d)
+
+-- a product of two numbers within their limits
+pub small-product : (n d : ℕ) → n ≤ 128 → d ≤ 64 → n * d ≤ 8192
+small-product n d h k = mul-le-mul h k
+
+pub small-square : (n : ℕ) → n ≤ 128 → n * n ≤ 16384
+small-square n h = mul-le-mul h h
+
+-- ---- each entry looks at the set first, and goes on from there
+
+set-first : (t u v : Bool) (x : ℕ) → cond t 1 (cond u 2 (cond v 3 x)) ≡ orElse (cond t 1 (cond u 2 (cond v 3 0))) x
+unfolding orElse
+set-first true u v x = refl
+set-first false true v x = refl
+set-first false false true x = refl
+set-first false false false x = refl
+
+pub point-order : (n d vectors id : ℕ) → pointRefusal n d vectors id ≡ orElse (setRefusal n d vectors) (firstOf (refuse6 n id ∷ []))
+unfolding pointRefusal setRefusal
+point-order n d vectors id = set-first (outside 1 128 n) (outside 1 64 d) (differ vectors (n * d)) _
+
+pub build-order : (n d vectors table : ℕ) → buildRefusal n d vectors table ≡ orElse (setRefusal n d vectors) (firstOf (refuse4 n table ∷ []))
+unfolding buildRefusal setRefusal
+build-order n d vectors table = set-first (outside 1 128 n) (outside 1 64 d) (differ vectors (n * d)) _
+
+pub walk-order : (n d vectors table query start threshold : ℕ) → walkRefusal n d vectors table query start threshold ≡ orElse (setRefusal n d vectors) (firstOf (refuse4 n table ∷ refuse5 d query ∷ refuse6 n start ∷ refuse9 threshold ∷ []))
+unfolding walkRefusal setRefusal
+walk-order n d vectors table query start threshold = set-first (outside 1 128 n) (outside 1 64 d) (differ vectors (n * d)) _
+
+pub search-order : (n d vectors table query start threshold width k ids distances trail : ℕ) → searchRefusal n d vectors table query start threshold width k ids distances trail ≡ orElse (setRefusal n d vectors) (firstOf (refuse4 n table ∷ refuse5 d query ∷ refuse6 n start ∷ refuse7 width ∷ refuse8 width k ∷ refuse9 threshold ∷ refuse10 n k ids distances trail ∷ []))
+unfolding searchRefusal setRefusal
+search-order n d vectors table query start threshold width k ids distances trail =
+    set-first (outside 1 128 n) (outside 1 64 d) (differ vectors (n * d)) _
+
+-- ---- what an entry answers and leaves, by whether it is refused
+
+module _ {A : Type 0} where
+  pub outcome-gives : {r : ℕ} → r ≡ 0 → (a : A) → outcome r a ≡ gives a
+  unfolding outcome
+  outcome-gives e a = rw (e, outcome)
+
+  pub outcome-refused : {r : ℕ} → r ≢ 0 → (a : A) → outcome r a ≡ refused r
+  unfolding outcome
+  outcome-refused {r} d a = go r d
+    where
+      go : (r : ℕ) → r ≢ 0 → outcome r a ≡ refused r
+      go zero d = absurd (d refl)
+      go (suc r) d = refl
+
+  pub after-new : {r : ℕ} → r ≡ 0 → (old new : A) → after r old new ≡ new
+  unfolding after
+  after-new e old new = rw (e, after)
+
+  pub after-old : {r : ℕ} → r ≢ 0 → (old new : A) → after r old new ≡ old
+  unfolding after
+  after-old {r} d old new = go r d
+    where
+      go : (r : ℕ) → r ≢ 0 → after r old new ≡ old
+      go zero d = absurd (d refl)
+      go (suc r) d = refl

@@ -1,0 +1,2 @@
+-- What the laws say, where that takes a definition of its own.
+pub mod Demand3
