@@ -2,6 +2,7 @@
 use Prim.Native.Nat.{ℕ}
 use mathlib.Core.Path.{_≡_, refl}
 use mathlib.Core.List.{List, [], _∷_, _++_}
+use lib.IntN.{pos}
 use Rattle.rules.specs.Points.{dist, coordinates, apart, away}
 use Rattle.rules.specs.Order.{keyed, count, any, without, on, pick, first, firsts}
 use Rattle.rules.specs.Edges.{keptIn, between, direct}
@@ -10,7 +11,7 @@ use Rattle.rules.specs.Search.{start, waiting, visit, before, choice, ne
 use Rattle.rules.specs.Bits.{bit, odd, bits, number, signedBy, signed, values, unpacked, byteCount}
 use Rattle.rules.specs.Sheet.{bitCount, sheetLength, fieldAt, points, coords, width, askCount, required, filling, vectorsOf, numbersIn, askPlace, askNumbers, askQuery}
 use Rattle.rules.specs.Refusals.{searchRefusal, sheetRefusal}
-use Rattle.rules.specs.Entries.{farness, orderOf, edgesOf, searched, nearIds, nearDistances, countsOf, askedRefusal}
+use Rattle.rules.specs.Entries.{ask, farness, orderOf, edgesOf, searched, nearIds, nearDistances, countsOf, askedRefusal}
 use Rattle.rules.specs.Lines.{decimalIn, decimal, part, parts, pairs, setLine, foundLine, askRefusedLine, nearLine, trailLine}
 use Rattle.rules.specs.Program.{askOf, linesOf, asksLines, printed}
 use Rattle.rules.specs.Examples.{Examples, Gives, three, asked}
@@ -29,20 +30,26 @@ ask-1 : Gives (asked 3 2) 2 3 3 (1 ∷ 2 ∷ []) (1 ∷ 1 ∷ []) (0 ∷ 1 ∷ 2
 unfolding dist coordinates away keyed count without on pick first firsts edgeIn start waiting visit before choice next answer run search farness orderOf edgesOf searched nearIds nearDistances countsOf
 ask-1 = rw itsTable (record { counts = refl; ids-are = refl; distances-are = refl; trail-is = refl })
 
+ask-one-way : Gives (ask 3 1 three (65535 ∷ 0 ∷ 9 ∷ 9 ∷ 65535 ∷ 9 ∷ 9 ∷ 9 ∷ 65535 ∷ []) (pos 4 ∷ []) 1 0 3 3) 1 1 1 (1 ∷ []) (1 ∷ []) (1 ∷ [])
+unfolding dist coordinates away keyed count without on pick first firsts edgeIn start waiting visit before choice next answer run search farness orderOf edgesOf searched nearIds nearDistances countsOf
+ask-one-way = record { counts = refl; ids-are = refl; distances-are = refl; trail-is = refl }
+
 pub examples : Examples
 unfolding dist coordinates apart any pick first keptIn between direct reaches notAbove largest labelOf leads label cell
 examples = record {
   p1-p2 = itsTable;
   p3 = ask-0;
   p4 = ask-1;
-  p5 = (refl, refl);
+  p5 = (refl, refl, refl, refl);
+  p5-ties = (refl, refl);
   p6 = refl;
-  p7 = refl;
+  p7 = (refl, refl, refl, refl);
   p8 = refl;
   p9 = refl;
   p10 = (refl, refl);
   nearest-to-v = refl;
-  open-at-v = (refl, refl);
+  open-at-v = (refl, refl, refl, refl);
+  one-way = ask-one-way;
 }
 
 -- ---- the program's example
