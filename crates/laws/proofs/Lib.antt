@@ -8,6 +8,7 @@ pub mod Labels
 pub mod Search
 pub mod Whole
 pub mod Demand3
+pub mod Ends
 pub mod Walk
 pub mod Distances
 pub mod Refusals

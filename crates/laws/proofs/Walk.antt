@@ -11,6 +11,7 @@ use borrow.Author.Tests.{ltb-true, ltb-false, lt-ltb, le-ltb}
 use Rattle.rules.specs.Order.{count, first, keyed}
 use Rattle.rules.specs.Edges.{Closing, Symmetric}
 use Rattle.rules.specs.Walk.{Walk, stepFrom, stepTo, walk, walkFrom, NearestId, Finds}
+use Rattle.laws.specs.Ends.{Stopped}
 use Rattle.laws.proofs.Tests.{both, le-or-lt, none-some, count-less, count-pos, count-lt}
 use Rattle.laws.proofs.Order.{first-none, first-some, first-cases}
 
@@ -109,6 +110,13 @@ module _ (n : ℕ) (D : ℕ → ℕ) (edge : ℕ → ℕ → Bool) where
       let r = ended k (record { current = f .0; moves = suc (w .moves) }) (s .0) (omega arith) in
       rw (walk-moves k w (f .0) (f .1)) (record { within = r .within; stopped = r .stopped; counted = omega (arith, r .counted) }))
       (step-cases (w .current))
+
+  -- a walk ends, on any table: at an id of the set, where no step moves, after at most n - 1 moves
+  pub walk-ends : (start : ℕ) → start < n → Stopped n D edge (walkFrom n D edge start)
+  unfolding walkFrom
+  walk-ends start l =
+      let r = ended n (record { current = start; moves = 0 }) l (omega (arith, nearer-lt start l)) in
+      record { within = r .within; stopped = r .stopped; short = omega (arith, r .counted, nearer-lt start l) }
 
   -- where each id that is not a nearest one has an edge to a nearer id, the walk from every start ends at a nearest one, in at most n - 1 moves
   pub walk-finds : n ≤ 128 → (v : ℕ) → NearestId n D v → ((u : ℕ) → u < n → D v < D u → (w : ℕ) × (w < n) × (edge u w ≡ true) × (D w < D u)) → (start : ℕ) → start < n → Finds n D v (walkFrom n D edge start)

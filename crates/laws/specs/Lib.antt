@@ -1,2 +1,3 @@
 -- What the laws say, where that takes a definition of its own.
 pub mod Demand3
+pub mod Ends
