@@ -5,6 +5,8 @@ pub mod Nearest
 pub mod Keyed
 pub mod Edges
 pub mod Labels
+pub mod Insert
+pub mod Line
 pub mod Search
 pub mod Whole
 pub mod Demand3

@@ -63,7 +63,7 @@ module _ (key : ℕ → ℕ) (n : ℕ) (ordered : Ordered n key) where
       (first-cases key n p)
 
   -- the others come later
-  later : (p : ℕ → Bool) (x : ℕ) → Least key n p x → (y : ℕ) → y < n → p y ≡ true → (y ≡ x → ⊥) → key x < key y
+  pub later : (p : ℕ → Bool) (x : ℕ) → Least key n p x → (y : ℕ) → y < n → p y ≡ true → (y ≡ x → ⊥) → key x < key y
   later p x h y l e d = ⊎-elim (λ q. absurd (d (sym (ordered x y (h .0) l q)))) (λ k. k) (eq-or-lt-of-le (h .2 y l e))
 
   nearest-nil : (k : ℕ) (p : ℕ → Bool) → min k (count n p) ≡ 0 → Nearest key n k p []

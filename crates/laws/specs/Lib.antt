@@ -1,3 +1,4 @@
 -- What the laws say, where that takes a definition of its own.
 pub mod Demand3
 pub mod Ends
+pub mod Line
