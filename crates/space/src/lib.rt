@@ -3,25 +3,29 @@ ghost use mathlib.Core.Path.{_≡_};
 ghost use Prim.Native.Nat.{_≤_, min};
 ghost use lib.ListN.{length, take};
 ghost use Rattle.rules.specs.Points.{dist};
-ghost use Rattle.rules.specs.Refusals.{setRefusal, pointRefusal};
+ghost use Rattle.rules.specs.Refusals.{outside, setRefusal, pointRefusal};
 ghost use Rattle.rules.specs.Entries.{pointOf};
 
 mod blocks;
+
+// Whether x is below low or over high.
+fn is_outside(low: usize, high: usize, x: usize) -> bool
+    ensures { λ r. ⌜ r ≡ outside low high x ⌝ }
+{
+    if x < low {
+        return true;
+    }
+    high < x
+}
 
 // Refusals 1, 2 and 3, with which every entry that is lent a set begins; 0 for none.
 pub fn set_refusal(n: usize, d: usize, len: usize) -> u8
     ensures { λ r. ⌜ r ≡ setRefusal n d len ⌝ }
 {
-    if n < 1 {
+    if is_outside(1, 128, n) {
         return 1;
     }
-    if 128 < n {
-        return 1;
-    }
-    if d < 1 {
-        return 2;
-    }
-    if 64 < d {
+    if is_outside(1, 64, d) {
         return 2;
     }
     if len != n * d {
