@@ -1,0 +1,102 @@
+-- `space::blocks::thirty_two` meets its contract: pairs add up. Assumes nothing.
+use Rattle.space.proofs.Sums.{pairs-add}
+use borrow.Author.Needs.{needs}
+use Rattle.space.proofs.blocks.thirty_two.Statement.{statement}
+use Rattle.space.proofs.blocks.thirty_two.Tie as tie
+
+four-requires : tie.Need-four-requires
+four-requires c κs = search needs
+
+add-four : tie.Need-add-four
+add-four c = search needs
+
+four-requires-2 : tie.Need-four-requires-2
+four-requires-2 c κs = search needs
+
+add-result : tie.Need-add-result
+add-result c = search needs
+
+add-four-2 : tie.Need-add-four-2
+add-four-2 c = search needs
+
+four-requires-3 : tie.Need-four-requires-3
+four-requires-3 c κs = search needs
+
+add-result-2 : tie.Need-add-result-2
+add-result-2 c = search needs
+
+add-four-3 : tie.Need-add-four-3
+add-four-3 c = search needs
+
+four-requires-4 : tie.Need-four-requires-4
+four-requires-4 c κs = search needs
+
+add-result-3 : tie.Need-add-result-3
+add-result-3 c = search needs
+
+add-four-4 : tie.Need-add-four-4
+add-four-4 c = search needs
+
+four-requires-5 : tie.Need-four-requires-5
+four-requires-5 c κs = search needs
+
+add-result-4 : tie.Need-add-result-4
+add-result-4 c = search needs
+
+add-four-5 : tie.Need-add-four-5
+add-four-5 c = search needs
+
+four-requires-6 : tie.Need-four-requires-6
+four-requires-6 c κs = search needs
+
+add-result-5 : tie.Need-add-result-5
+add-result-5 c = search needs
+
+add-four-6 : tie.Need-add-four-6
+add-four-6 c = search needs
+
+four-requires-7 : tie.Need-four-requires-7
+four-requires-7 c κs = search needs
+
+add-result-6 : tie.Need-add-result-6
+add-result-6 c = search needs
+
+add-four-7 : tie.Need-add-four-7
+add-four-7 c = search needs
+
+four-requires-8 : tie.Need-four-requires-8
+four-requires-8 c κs = search needs
+
+add-result-7 : tie.Need-add-result-7
+add-result-7 c = search needs
+
+returns : tie.Need-returns
+returns c = pairs-add (pairs-add (pairs-add (pairs-add (pairs-add (pairs-add (pairs-add (c .before .before .before .before .before .before .before .four .ensures) (c .before .before .before .before .before .before .four2 .ensures)) (c .before .before .before .before .before .four3 .ensures)) (c .before .before .before .before .four4 .ensures)) (c .before .before .before .four5 .ensures)) (c .before .before .four6 .ensures)) (c .before .four7 .ensures)) (c .four8 .ensures)
+
+pub thirty-two-spec : {M : Type 1} → statement M
+thirty-two-spec =
+    tie.close
+    (tie.spec
+    four-requires
+    add-four
+    four-requires-2
+    add-result
+    add-four-2
+    four-requires-3
+    add-result-2
+    add-four-3
+    four-requires-4
+    add-result-3
+    add-four-4
+    four-requires-5
+    add-result-4
+    add-four-5
+    four-requires-6
+    add-result-5
+    add-four-6
+    four-requires-7
+    add-result-6
+    add-four-7
+    four-requires-8
+    add-result-7
+    returns)

@@ -1,0 +1,2 @@
+-- What the code of `space` speaks of on its way to D.
+pub mod Pairs
