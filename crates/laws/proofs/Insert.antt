@@ -17,7 +17,7 @@ use Rattle.laws.proofs.Tests.{both, never, same, or-l, or-r, or-cases, 
 use Rattle.laws.proofs.Order.{Least, without-in, without-of, without-ne, first-none, first-some, first-cases, first-same, firsts-none, firsts-some, firsts-same}
 use Rattle.laws.proofs.Nearest.{first-is}
 
-lt-or-le : (a b : ℕ) → (a < b) ⊎ (b ≤ a)
+pub lt-or-le : (a b : ℕ) → (a < b) ⊎ (b ≤ a)
 lt-or-le a b = ⊎-elim inr inl (le-or-lt b a)
 
 -- ---- sets

@@ -1,0 +1,2 @@
+// The search of document 01: explore from the seen points, then take the first k.
+mod line;
