@@ -11,7 +11,7 @@ use crate::sheet::{write, MOST_ASKS, MOST_BYTES, MOST_COORDINATE_WIDTH};
 
 /// The kinds of sheets. The kind of a seed is its remainder by their number,
 /// so seeds in a row go through all of them.
-pub const KINDS: [&str; 24] = [
+pub const KINDS: [&str; 25] = [
     "grid of ties",
     "identical points",
     "points on a line",
@@ -26,6 +26,7 @@ pub const KINDS: [&str; 24] = [
     "asks that the search refuses",
     "thresholds at labels",
     "queries at points",
+    "roots beside whole steps",
     "largest sheet",
     "damaged: truncated",
     "damaged: one byte too long",
@@ -112,6 +113,7 @@ pub fn sheet(seed: u64) -> Vec<u8> {
             }
             draft.finish()
         }
+        "roots beside whole steps" => beside_steps(random).finish(),
         "largest sheet" => {
             let mut draft = Draft::any_shape(random, MOST_POINTS, MOST_COORDINATES, MOST_ASKS);
             draft.c = MOST_COORDINATE_WIDTH;
@@ -126,7 +128,7 @@ pub fn sheet(seed: u64) -> Vec<u8> {
             } else {
                 1 + random.below(most)
             };
-            sheet.truncate(sheet.len() - cut.min(most));
+            sheet.truncate(sheet.len() - cut);
             sheet
         }
         "damaged: one byte too long" => {
@@ -149,6 +151,7 @@ pub fn sheet(seed: u64) -> Vec<u8> {
             sheet[at] ^= 1 << random.below(8);
             sheet
         }
+        // What is left: any bytes.
         _ => (0..random.below(80)).map(|_| random.byte()).collect(),
     }
 }
@@ -158,7 +161,8 @@ pub fn set(seed: u64) -> (usize, usize, Vec<i8>) {
     let mut random = Random::new(seed);
     let (n, d) = (any_n(&mut random), any_d(&mut random));
     let shape = random.pick(&SHAPES);
-    let width = 1 + random.below(MOST_COORDINATE_WIDTH);
+    // All widths, and the full one more often than the others.
+    let width = random.pick(&[1, 2, 3, 4, 5, 6, 7, 8, 8, 8]);
     let vectors = shape.vectors(&mut random, n, d, width);
     (n, d, vectors)
 }
@@ -431,13 +435,14 @@ impl Draft {
         let first = random.one_in(2);
         if past > 0 && (both || first) {
             // The first id past the set is the one a slip would let through.
-            let by = random.pick(&[0, past - 1, random.0 as u16 % past]);
-            ask.start = n + by;
+            let any = random.below(usize::from(past)) as u16;
+            ask.start = n + random.pick(&[0, past - 1, any]);
         }
         if both || !first || past == 0 {
             ask.width = ask.width.min(MOST_WIDTH - 1);
             let over = MOST_WIDTH - ask.width;
-            ask.k = ask.width + random.pick(&[1, over, 1 + random.0 as u16 % over]);
+            let any = 1 + random.below(usize::from(over)) as u16;
+            ask.k = ask.width + random.pick(&[1, over, any]);
         }
         ask
     }
@@ -488,6 +493,63 @@ fn small(random: &mut Random) -> Draft {
     let (n, d) = (1 + random.below(10), 1 + random.below(3));
     let asks = random.below(6);
     Draft::any_shape(random, n, d, asks)
+}
+
+/// Three points u, w, v whose label from u to v lies just under a whole step,
+/// so closely that rough roots carry it over, asked at and beside it.
+///
+/// 256 × (64j² + j) is one less than the square of 128j + 1. Differences of j
+/// in 64 coordinates make 64j²; moving some of them up and as many down by m
+/// adds 2m² for each two and changes nothing else, which makes the rest.
+fn beside_steps(random: &mut Random) -> Draft {
+    let d = MOST_COORDINATES;
+    let (j, differences) = loop {
+        let j = 2 * (15 + random.below(112));
+        let mut differences = vec![j; d];
+        let mut rest = j / 2;
+        for two in differences.chunks_exact_mut(2) {
+            let m = rest.isqrt().min(255 - j);
+            two[0] += m;
+            two[1] -= m;
+            rest -= m * m;
+        }
+        if rest == 0 {
+            break (j, differences);
+        }
+    };
+    // w lies beside v, on the side of u, so that it is direct and its D to v
+    // is a square.
+    let near = 1 + random.below(9);
+    let mut nearer = differences.clone();
+    nearer[d - 1] -= near;
+    let label = (128 * j - 16 * near) as u16;
+
+    let upwards: Vec<bool> = (0..d).map(|_| random.one_in(2)).collect();
+    let from_corner = |differences: &[usize]| -> Vec<i8> {
+        let signed = differences.iter().zip(&upwards).map(|(&by, &up)| {
+            let by = by as i16;
+            (if up { by - 128 } else { 127 - by }) as i8
+        });
+        signed.collect()
+    };
+    let v = from_corner(&differences);
+    let vectors = [from_corner(&vec![0; d]), from_corner(&nearer), v.clone()].concat();
+    let asks = [label - 1, label, label + 1].map(|threshold| {
+        let ask = Ask {
+            start: 0,
+            width: 3,
+            k: 3,
+            threshold,
+        };
+        (ask, v.clone())
+    });
+    Draft {
+        n: 3,
+        d,
+        c: MOST_COORDINATE_WIDTH,
+        vectors,
+        asks: asks.to_vec(),
+    }
 }
 
 /// A sheet with one or more filling bits set.

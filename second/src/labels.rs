@@ -17,9 +17,15 @@ pub fn build(set: Set<'_>, table: &mut [u16]) -> Result<(), u8> {
 
     let distances = Distances::of(set);
     for (u, row) in table.chunks_exact_mut(set.n).enumerate() {
-        let mut edges = EdgesFrom::new(u, &distances);
+        let direct = direct_from(u, &distances);
         for (v, cell) in row.iter_mut().enumerate() {
-            *cell = if u == v { DIAGONAL } else { edges.label(v) };
+            *cell = if u == v {
+                DIAGONAL
+            } else if direct.contains(&v) {
+                0
+            } else {
+                label(u, v, &direct, &distances)
+            };
         }
     }
     Ok(())
@@ -91,55 +97,56 @@ impl Distances {
     }
 }
 
-/// The edges from one point u, with what is already known of them.
-struct EdgesFrom<'a> {
+/// The ids to which the edge from u is direct.
+fn direct_from(u: usize, distances: &Distances) -> Vec<usize> {
+    let mut questions = Questions {
+        u,
+        distances,
+        answers: vec![None; distances.n],
+    };
+    (0..distances.n)
+        .filter(|&v| v != u && questions.is_direct(v))
+        .collect()
+}
+
+/// The label of the edge from u to another id v that is not direct.
+fn label(u: usize, v: usize, direct: &[usize], distances: &Distances) -> u16 {
+    let (from_u, from_v) = (distances.from(u), distances.from(v));
+    let least = direct
+        .iter()
+        .filter(|&&w| from_u[w] < from_u[v])
+        .map(|&w| from_v[w])
+        .min()
+        .expect("a direct point stands between, or the edge would be direct");
+    // At most 32,640, the value for the largest D and no rest.
+    steps_between_roots(from_u[v], least) as u16
+}
+
+/// The questions about the edges from one point u.
+struct Questions<'a> {
     u: usize,
     distances: &'a Distances,
     /// Whether the edge to each id is direct, once it has been asked.
-    direct: Vec<Option<bool>>,
+    answers: Vec<Option<bool>>,
 }
 
-impl<'a> EdgesFrom<'a> {
-    fn new(u: usize, distances: &'a Distances) -> Self {
-        EdgesFrom {
-            u,
-            distances,
-            direct: vec![None; distances.n],
-        }
-    }
-
+impl Questions<'_> {
     /// Whether the edge from u to another id v is direct, as the definition
     /// asks it. Each further question is about a smaller D from u, so the
     /// questions end, at most `n - 1` deep.
     fn is_direct(&mut self, v: usize) -> bool {
-        if let Some(known) = self.direct[v] {
-            return known;
+        if let Some(answer) = self.answers[v] {
+            return answer;
         }
         // Neither u nor v is ever an r here: u has the full D to v, and v has
         // the full D to u.
-        let from_u = self.distances.from(self.u);
-        let from_v = self.distances.from(v);
+        let (from_u, from_v) = (self.distances.from(self.u), self.distances.from(v));
         let whole = from_u[v];
-        let hidden = (0..self.distances.n)
-            .any(|r| from_u[r] < whole && from_v[r] < whole && self.is_direct(r));
-        self.direct[v] = Some(!hidden);
+        let hidden = from_u.iter().zip(from_v).enumerate().any(|(r, (&a, &b))| {
+            let stands_between = a.max(b) < whole;
+            stands_between && self.is_direct(r)
+        });
+        self.answers[v] = Some(!hidden);
         !hidden
-    }
-
-    /// The label of the edge from u to another id v.
-    fn label(&mut self, v: usize) -> u16 {
-        if self.is_direct(v) {
-            return 0;
-        }
-        let from_u = self.distances.from(self.u);
-        let from_v = self.distances.from(v);
-        let whole = from_u[v];
-        let least = (0..self.distances.n)
-            .filter(|&w| w != self.u && from_u[w] < whole && self.is_direct(w))
-            .map(|w| from_v[w])
-            .min()
-            .expect("an edge that is not direct has a direct point standing between");
-        // At most 32,640, the value for the largest D and no rest.
-        steps_between_roots(whole, least) as u16
     }
 }

@@ -252,7 +252,7 @@ fn error_working_the_label_from_the_point_nearest_to_u() {
 
 #[test]
 fn error_a_root_in_32_bit_floats() {
-    assert_eq!((4_000_250 as f32).sqrt(), 2_000.0625);
+    assert_eq!(4_000_250_f32.sqrt(), 2_000.062_5);
     assert_eq!(steps_between_roots(4_000_250, 0), 32_000);
     assert_eq!(steps_between_roots(4_000_250, 1), 31_984);
     let set = rounding();

@@ -85,7 +85,7 @@ fn a_full_width_on_the_own_table_gives_exactly_the_nearest() {
         let own = set.table();
         let query = query(seed, set.d, &set.vectors);
         let mut nearest: Vec<(u32, u16)> = (0..set.n)
-            .map(|id| (set.from_query(id, &query), id as u16))
+            .map(|id| (set.to_query(id, &query), id as u16))
             .collect();
         nearest.sort();
         for start in 0..set.n as u16 {

@@ -14,14 +14,14 @@ fn plain_walk(set: &Owned, table: &[u16], query: &[i8], start: u16, threshold: u
         let mut best: Option<usize> = None;
         for v in 0..set.n {
             if v != here && table[here * set.n + v] <= threshold {
-                let nearer = |b| set.from_query(v, query) < set.from_query(b, query);
+                let nearer = |b| set.to_query(v, query) < set.to_query(b, query);
                 if best.is_none_or(nearer) {
                     best = Some(v);
                 }
             }
         }
         match best {
-            Some(v) if set.from_query(v, query) < set.from_query(here, query) => {
+            Some(v) if set.to_query(v, query) < set.to_query(here, query) => {
                 way.push(v as u16);
             }
             _ => return way,
@@ -48,7 +48,7 @@ fn walks_and_steps_are_those_of_a_plain_walker() {
         let last = way[way.len() - 1];
         let end = End {
             id: last,
-            distance: set.from_query(usize::from(last), &query),
+            distance: set.to_query(usize::from(last), &query),
             moves,
         };
         let got = walk(set.set(), &table, &query, start, threshold);

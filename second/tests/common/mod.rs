@@ -62,7 +62,7 @@ impl Owned {
     }
 
     /// D between an id and a query.
-    pub fn from_query(&self, id: usize, query: &[i8]) -> u32 {
+    pub fn to_query(&self, id: usize, query: &[i8]) -> u32 {
         squared_distance(point(self.set(), id as u16), query)
     }
 }
@@ -135,7 +135,7 @@ pub fn plain_search(set: &Owned, table: &[u16], query: &[i8], ask: Ask) -> Resul
     seen[usize::from(ask.start)] = true;
     let mut trail: Vec<u16> = Vec::new();
     let mut order: Vec<usize> = (0..n).collect();
-    order.sort_by_key(|&id| set.from_query(id, query));
+    order.sort_by_key(|&id| set.to_query(id, query));
     loop {
         let seen_in_order: Vec<usize> = order.iter().copied().filter(|&id| seen[id]).collect();
         let first = seen_in_order
@@ -155,7 +155,7 @@ pub fn plain_search(set: &Owned, table: &[u16], query: &[i8], ask: Ask) -> Resul
                 },
                 distances: ids
                     .iter()
-                    .map(|&id| set.from_query(usize::from(id), query))
+                    .map(|&id| set.to_query(usize::from(id), query))
                     .collect(),
                 ids,
                 trail,
