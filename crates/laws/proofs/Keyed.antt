@@ -1,5 +1,5 @@
 -- The key D × 128 + id: it tells ids below 128 apart, and its order is that of D and then of the id. Assumes nothing.
-use Prim.Native.Nat.{ℕ, _+_, _*_, _≤_, _<_}
+use Prim.Native.Nat.{ℕ, _+_, _*_, _/_, _%_, _≤_, _<_}
 use native.Mathlib.Nat.{eq-or-lt-of-le}
 use native.Mathlib.Omega.{arith}
 use mathlib.Core.Path.{_≡_}
@@ -43,3 +43,12 @@ keyed-earlier D x y lx ly =
     let l : x < y = ltb-true x y (and-r (eqb (D x) (D y)) (ltb x y) b) in
     lt-ltb (D x * 128 + x) (D y * 128 + y) (omega arith))
     (or-cases (ltb (D x) (D y)) (eqb (D x) (D y) && ltb x y) t))
+
+-- the id and the D of a key
+pub keyed-id : (D : ℕ → ℕ) (x : ℕ) → x < 128 → keyed D x % 128 ≡ x
+unfolding keyed
+keyed-id D x l = omega arith
+
+pub keyed-D : (D : ℕ → ℕ) (x : ℕ) → x < 128 → keyed D x / 128 ≡ D x
+unfolding keyed
+keyed-D D x l = omega arith

@@ -1,11 +1,12 @@
 // The line: the keys of the seen points, D × 128 + id, smallest first, in front of an array.
 ghost use mathlib.Core.Path.{_≡_};
-ghost use Prim.Native.Nat.{_+_, _<_, _≤_};
+ghost use Prim.Native.Nat.{_<_, _≤_};
+ghost use lib.ListN.{length};
 ghost use Rattle.search.specs.Line.{Shifted, Put, Opened};
 
 // Moves those of the first `seen` numbers that are larger than `key` up by one place, from the last one down. Returns the place that is free then.
-fn shift(line: &mut [u32; 128], seen: usize, key: u32) -> usize
-    requires { ⌜ seen < 128 ⌝ }
+fn shift(line: &mut [u32], seen: usize, key: u32) -> usize
+    requires { ⌜ seen < length (now line) ⌝ }
     ensures { λ r. ⌜ Shifted (now (line .entry)) seen key r (now (line .exit)) ⌝ }
 {
     let mut at = seen;
@@ -21,8 +22,8 @@ fn shift(line: &mut [u32; 128], seen: usize, key: u32) -> usize
 }
 
 // Puts a key in its place among the first `seen` numbers. Returns the place.
-pub(crate) fn put(line: &mut [u32; 128], seen: usize, key: u32) -> usize
-    requires { ⌜ seen < 128 ⌝ }
+pub(crate) fn put(line: &mut [u32], seen: usize, key: u32) -> usize
+    requires { ⌜ seen < length (now line) ⌝ }
     ensures { λ r. ⌜ Put (now (line .entry)) seen key r (now (line .exit)) ⌝ }
 {
     let at = shift(line, seen, key);
@@ -31,8 +32,8 @@ pub(crate) fn put(line: &mut [u32; 128], seen: usize, key: u32) -> usize
 }
 
 // The first place from `from` on whose point waits to go on the trail; `seen` for none.
-pub(crate) fn first_open(line: &[u32; 128], flags: &[u8; 128], seen: usize, from: usize) -> usize
-    requires { ⌜ (from ≤ seen) × (seen ≤ 128) ⌝ }
+pub(crate) fn first_open(line: &[u32], flags: &[u8], seen: usize, from: usize) -> usize
+    requires { ⌜ (from ≤ seen) × (seen ≤ length (now line)) × (length (now flags) ≡ 128) ⌝ }
     ensures { λ r. ⌜ Opened (now (line .entry)) (now (flags .entry)) seen from r ⌝ }
 {
     let mut at = from;

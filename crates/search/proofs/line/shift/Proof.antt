@@ -1,7 +1,6 @@
 -- `search::line::shift` meets its contract. Assumes nothing.
-use Prim.Native.Nat.{ℕ, _≤_, _<_}
-use lib.ListN.{getD}
-use Rattle.search.specs.Line.{Slot, Moved, Shifted}
+use mathlib.Core.Path.{refl}
+use Rattle.search.proofs.Places.{Shifting, shift-start, shift-step, shift-stop, shift-front}
 use borrow.Author.Needs.{needs}
 use Rattle.search.proofs.line.shift.Statement.{statement}
 use Rattle.search.proofs.line.shift.Tie as tie
@@ -9,55 +8,62 @@ use Rattle.search.proofs.line.shift.Reads as reads
 use Rattle.search.proofs.line.shift.Lts as lts
 
 abbrev Inv-loop : tie.InvT-loop
-Inv-loop line₀ seen key at₀ line at =
-    (at ≤ seen) × ((i : ℕ) → at ≤ i → i < seen → key < getD line₀ i 0) × Moved line₀ seen at line
+Inv-loop line₀ seen key at₀ line at = Shifting line₀ seen key at line
 
 abbrev μ-loop : tie.MeasureT-loop
 μ-loop line₀ seen key at₀ line at = at
 
--- src/line.rt:12:5
+-- src/line.rt:13:5
 loop-holds : tie.Need-loop-holds Inv-loop μ-loop
-loop-holds c = search needs
+loop-holds c = shift-start _ _ _
 
--- src/line.rt:13:22
+-- src/line.rt:14:22
 sub-x : tie.Need-sub-x Inv-loop μ-loop
 sub-x c = search needs
 
--- src/line.rt:13:17
+-- src/line.rt:14:17
 mul-x : tie.Need-mul-x Inv-loop μ-loop
 mul-x c = search needs
 
--- src/line.rt:13:17
-element-copy-out-x : tie.Need-element-copy-out-x Inv-loop μ-loop
-element-copy-out-x c = search needs
+-- src/line.rt:14:17
+slice-read-x : tie.Need-slice-read-x Inv-loop μ-loop
+slice-read-x c = search needs
 
--- src/line.rt:15:13
+-- src/line.rt:16:13
+same-length : tie.Need-same-length Inv-loop μ-loop
+same-length c = search needs
+
+-- src/line.rt:16:13
 returns : tie.Need-returns Inv-loop μ-loop
-returns c = search needs
+returns c = shift-stop (c .before .before .before .loop .inv) (search needs) (search needs)
 
--- src/line.rt:17:9
+-- src/line.rt:18:9
 mul-line : tie.Need-mul-line Inv-loop μ-loop
 mul-line c = search needs
 
--- src/line.rt:17:9
-element-write-line : tie.Need-element-write-line Inv-loop μ-loop
-element-write-line c = search needs
-
 -- src/line.rt:18:9
+slice-write-line : tie.Need-slice-write-line Inv-loop μ-loop
+slice-write-line c = search needs
+
+-- src/line.rt:19:9
 sub-at : tie.Need-sub-at Inv-loop μ-loop
 sub-at c = search needs
 
--- src/line.rt:12:5
+-- src/line.rt:13:5
 loop-less : tie.Need-loop-less Inv-loop μ-loop
 loop-less c = search needs
 
--- src/line.rt:12:5
+-- src/line.rt:13:5
 loop-again : tie.Need-loop-again Inv-loop μ-loop
-loop-again c = search needs
+loop-again c = shift-step (c .before .before .before .loop .inv) (search needs) (search needs) (search needs) _ refl
 
--- src/line.rt:7:1
+-- src/line.rt:8:1
+same-length-2 : tie.Need-same-length-2 Inv-loop μ-loop
+same-length-2 c = search needs
+
+-- src/line.rt:8:1
 returns-2 : tie.Need-returns-2 Inv-loop μ-loop
-returns-2 c = search needs
+returns-2 c = shift-front (c .before .loop .inv) (search needs)
 
 pub shift-spec : {M : Type 1} → statement M
 shift-spec =
@@ -68,11 +74,13 @@ shift-spec =
     loop-holds
     sub-x
     mul-x
-    element-copy-out-x
+    slice-read-x
+    same-length
     returns
     mul-line
-    element-write-line
+    slice-write-line
     sub-at
     loop-less
     loop-again
+    same-length-2
     returns-2)

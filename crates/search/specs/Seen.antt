@@ -1,0 +1,45 @@
+-- What the flags, the line and a row of the table stand for while a search explores.
+use Prim.Native.Nat.{ℕ, zero, suc, _+_, _*_, _%_, _≤_, _<_}
+use mathlib.Core.Path.{_≡_}
+use mathlib.Core.Bool.{Bool, true, false, cond, not, _&&_}
+use mathlib.Core.List.{List, [], _∷_, _++_, map}
+use lib.Dec.{ltb, leb, eqb}
+use lib.IntN.{ℤ}
+use lib.ListN.{length, getD, set, take, drop}
+use Rattle.rules.specs.Points.{away}
+use Rattle.rules.specs.Order.{keyed, count, firsts}
+use Rattle.rules.specs.Labels.{edgeIn}
+use Rattle.rules.specs.Search.{State, search}
+use Rattle.rules.specs.Refusals.{setRefusal}
+use Rattle.search.specs.Line.{waits, sees}
+
+-- a set that is not refused, and a query of its length
+pub record Given (n d : ℕ) (vectors query : List ℤ) : Type 0 where
+  pub set-given : setRefusal n d (length vectors) ≡ 0
+  pub query-is : length query ≡ d
+
+-- the order from the query
+abbrev pub keyOf : ℕ → List ℤ → List ℤ → ℕ → ℕ
+keyOf d vectors query = keyed (away d vectors query)
+
+-- the line has the keys of the seen ids in order, and no id before the place `from` waits
+pub record Lined (n : ℕ) (key : ℕ → ℕ) (flags line : List ℕ) (seen from : ℕ) : Type 0 where
+  pub flags-size : length flags ≡ 128
+  pub line-size : length line ≡ 128
+  pub many : seen ≡ count n (sees flags)
+  pub keys : take seen line ≡ map key (firsts key n n (sees flags))
+  pub from-in : from ≤ seen
+  pub passed : (i : ℕ) → i < from → waits flags (getD line i 0 % 128) ≡ false
+
+-- the flags after one cell of a row was looked at
+abbrev pub looked : List ℕ → ℕ → ℕ → List ℕ → List ℕ
+looked row m y flags = cond (eqb (getD flags y 0) 0 && leb (getD row y 0) m) (set flags y 1) flags
+
+-- the flag of an id after the edges of a row were followed
+abbrev pub markedAt : List ℕ → ℕ → List ℕ → ℕ → ℕ
+markedAt row m old y = cond (eqb (getD old y 0) 0 && leb (getD row y 0) m) 1 (getD old y 0)
+
+-- the flags after the edges of a row to the ids below n were followed
+pub record Marked (n : ℕ) (row : List ℕ) (m : ℕ) (old new : List ℕ) : Type 0 where
+  pub size : length new ≡ length old
+  pub each : (y : ℕ) → y < n → getD new y 0 ≡ markedAt row m old y
