@@ -1,3 +1,6 @@
 pub mod Places
 pub mod Seeing
 pub mod Marking
+pub mod Visiting
+pub mod Rounds
+pub mod Filling

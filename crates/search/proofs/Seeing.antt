@@ -16,7 +16,7 @@ use Rattle.rules.specs.Points.{dist, away}
 use Rattle.rules.specs.Entries.{pointOf}
 use Rattle.laws.specs.Line.{adding, Place}
 use Rattle.laws.proofs.Refusals.{set-ok}
-use Rattle.laws.proofs.Tests.{both, never, count-one, count-lt}
+use Rattle.laws.proofs.Tests.{both, never, count-le, count-one, count-lt}
 use Rattle.laws.proofs.Order.{firsts-same}
 use Rattle.laws.proofs.Keyed.{keyed-ordered, keyed-id}
 use Rattle.laws.proofs.Line.{Whole, listed, whole-rising, line-whole, line-length, line-insert}
@@ -156,3 +156,10 @@ module _ {n d : ℕ} {vectors query : List ℤ} (g : Given n d vectors query) wh
   pub line-room : {flags line : List ℕ} {seen from : ℕ} → Lined n (keyOf d vectors query) flags line seen from → (id : ℕ) → id < n → getD flags id 0 ≡ 0 → seen < length line
   line-room {flags} h id l f =
       omega (arith, h .many, h .line-size, given-small, count-lt n (sees flags) id l (rw f))
+
+  -- an id of the set has a flag, and the seen ids have room in the line
+  pub flag-there : {flags line : List ℕ} {seen from : ℕ} → Lined n (keyOf d vectors query) flags line seen from → {id : ℕ} → id < n → id < length flags
+  flag-there h l = omega (arith, h .flags-size, given-small)
+
+  pub line-holds : {flags line : List ℕ} {seen from : ℕ} → Lined n (keyOf d vectors query) flags line seen from → seen ≤ length line
+  line-holds {flags} h = omega (arith, h .many, h .line-size, given-small, count-le n (sees flags))

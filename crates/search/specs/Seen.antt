@@ -43,3 +43,27 @@ markedAt row m old y = cond (eqb (getD old y 0) 0 && leb (getD row y 0) m) 1 (ge
 pub record Marked (n : ℕ) (row : List ℕ) (m : ℕ) (old new : List ℕ) : Type 0 where
   pub size : length new ≡ length old
   pub each : (y : ℕ) → y < n → getD new y 0 ≡ markedAt row m old y
+
+-- x went on the trail, and the edges of its row of the table were followed; what waits first stands at the place `from`
+pub record Visited (n : ℕ) (key : ℕ → ℕ) (table : List ℕ) (m x : ℕ) (flags flags′ line′ : List ℕ) (seen from : ℕ) : Type 0 where
+  pub row : List ℕ
+  pub cells : (y : ℕ) → y < n → getD row y 0 ≡ getD table (x * n + y) 0
+  pub marked : Marked n row m (set flags x 2) flags′
+  pub lined : Lined n key flags′ line′ seen from
+  pub waits-there : from < seen → waits flags′ (getD line′ from 0 % 128) ≡ true
+
+-- a point waits at the place `from`, and fewer than `width` come before it
+abbrev pub goesOn : ℕ → ℕ → ℕ → Bool
+goesOn seen from width = ltb from seen && ltb from width
+
+-- the search that the flags at entry ask for
+abbrev pub soughtBy : ℕ → (ℕ → ℕ) → List ℕ → ℕ → ℕ → List ℕ → State
+soughtBy n key table m width flags = search n key (edgeIn table n m) width (sees flags)
+
+-- what an exploration hands back: the counts, the trail in front of what its buffer held, and the keys of the seen ids in order
+pub record Explored (n : ℕ) (key : ℕ → ℕ) (table : List ℕ) (m width : ℕ) (flags trail line′ trail′ : List ℕ) (seen walked : ℕ) : Type 0 where
+  pub walked-is : walked ≡ length (soughtBy n key table m width flags .trail)
+  pub trail-is : trail′ ≡ soughtBy n key table m width flags .trail ++ drop walked trail
+  pub seen-is : seen ≡ count n (soughtBy n key table m width flags .seen)
+  pub line-size : length line′ ≡ 128
+  pub line-is : take seen line′ ≡ map key (firsts key n n (soughtBy n key table m width flags .seen))

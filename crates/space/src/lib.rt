@@ -8,8 +8,8 @@ ghost use Rattle.rules.specs.Entries.{pointOf};
 
 mod blocks;
 
-// Whether x is below low or over high.
-fn is_outside(low: usize, high: usize, x: usize) -> bool
+// Whether x is below low or over high: the test of refusals 1, 2, 7, 8 and 11.
+pub fn is_outside(low: usize, high: usize, x: usize) -> bool
     ensures { λ r. ⌜ r ≡ outside low high x ⌝ }
 {
     if x < low {
