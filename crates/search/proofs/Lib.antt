@@ -4,3 +4,4 @@ pub mod Marking
 pub mod Visiting
 pub mod Rounds
 pub mod Filling
+pub mod Finish

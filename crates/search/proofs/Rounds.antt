@@ -107,9 +107,9 @@ module _ (n : ℕ) (D : ℕ → ℕ) (table : List ℕ) (m width : ℕ) (flags�
     pub waits-there : from < seen → waits flags (getD line from 0 % 128) ≡ true
 
   module _ (small : n ≤ 128) where
-    pub round-start : {line₀ : List ℕ} {seen from : ℕ} → ((y : ℕ) → getD flags₀ y 0 ≤ 1) → Lined n (keyed D) flags₀ line₀ seen from → from ≡ 0 → Round flags₀ line₀ trail₀ seen from 0
+    pub round-start : {line₀ : List ℕ} {seen from : ℕ} → ((y : ℕ) → getD flags₀ y 0 ≤ 1) → Lined n (keyed D) flags₀ line₀ seen from → Round flags₀ line₀ trail₀ seen from 0
     unfolding run start
-    round-start {line₀} {seen} {from} fresh h z = record {
+    round-start {line₀} {seen} {from} fresh h = record {
       tsize = refl;
       long = refl;
       wrote = refl;

@@ -155,7 +155,15 @@ fn visit(
     let a = x * n;
     let e = a + n;
     let next = spread(
-        n, d, vectors, query, &table[a..e], threshold, front, flags, line,
+        n,
+        d,
+        vectors,
+        query,
+        &table[a..e],
+        threshold,
+        front,
+        flags,
+        line,
     );
     let seen = next.seen;
     let from = line::first_open(line, flags, seen, next.from);
@@ -190,7 +198,7 @@ pub(crate) fn explore(
     requires given { ⌜ Given n d (now vectors) (now query) ⌝ }
     requires lined { ⌜ Lined n (keyOf d (now vectors) (now query)) (now flags) (now line) (start .seen) (start .from) ⌝ }
     requires fresh { ⌜ ((y : ℕ) → getD (now flags) y 0 ≤ 1) ⌝ }
-    requires table { ⌜ (length (now table) ≡ n * n) × (n ≤ length (now trail)) × (start .from ≡ 0) ⌝ }
+    requires table { ⌜ (length (now table) ≡ n * n) × (n ≤ length (now trail)) ⌝ }
     ensures { λ r. ⌜ Explored n (keyOf d (now (vectors .entry)) (now (query .entry))) (now (table .entry)) threshold width (now (flags .entry)) (now (trail .entry)) (now (line .exit)) (now (trail .exit)) (r .seen) (r .walked) ⌝ }
 {
     let mut front = start;
@@ -200,7 +208,16 @@ pub(crate) fn explore(
         let x = line[from] % 128;
         trail[walked] = x as u16;
         front = visit(
-            n, d, vectors, table, query, threshold, x as usize, front, flags, line,
+            n,
+            d,
+            vectors,
+            table,
+            query,
+            threshold,
+            x as usize,
+            front,
+            flags,
+            line,
         );
         walked += 1;
     }

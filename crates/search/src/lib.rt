@@ -1,6 +1,5 @@
 // The search of document 01: explore from the start, then take the first k.
 use explore::Front;
-
 ghost use mathlib.Core.Path.{_≡_};
 ghost use mathlib.Core.List.{map};
 ghost use Prim.Native.Nat.{_≤_};
@@ -143,7 +142,14 @@ pub fn search(
     let mut line = [0u32; 128];
     let nothing = Front { seen: 0, from: 0 };
     let first = explore::see(
-        n, d, vectors, query, start as usize, nothing, &mut flags, &mut line,
+        n,
+        d,
+        vectors,
+        query,
+        start as usize,
+        nothing,
+        &mut flags,
+        &mut line,
     );
     let ways = explore::explore(
         n,

@@ -76,7 +76,7 @@ same-length-2 c = filled-size (c .before .loop .inv .2) (omega (arith, c .before
 
 -- src/lib.rt:90:1
 returns : tie.Need-returns Inv-loop μ-loop
-returns c = 
+returns c =
     let e = le-antisymm (c .before .loop .inv .0) (c .loop-test .left) in
     (filled-end (c .before .loop .inv .1) e (c .before .before .pre .0), filled-end (c .before .loop .inv .2) e (c .before .before .pre .0))
 

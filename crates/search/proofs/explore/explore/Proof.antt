@@ -23,7 +23,7 @@ abbrev μ-loop : tie.MeasureT-loop
 
 -- src/explore.rt:197:5
 loop-holds : tie.Need-loop-holds Inv-loop μ-loop
-loop-holds c = round-start _ _ _ _ _ _ _ (given-small (c .before .before .before .before .pre .0)) (c .before .before .before .before .pre .1 .1 .0) (c .before .before .before .before .pre .1 .0) (c .before .before .before .before .pre .1 .1 .1 .2)
+loop-holds c = round-start _ _ _ _ _ _ _ (given-small (c .before .before .before .before .pre .0)) (c .before .before .before .before .pre .1 .1 .0) (c .before .before .before .before .pre .1 .0)
 
 -- src/explore.rt:197:11
 goes-on-requires : tie.Need-goes-on-requires Inv-loop μ-loop
