@@ -11,3 +11,5 @@ pub mod Demand3
 pub mod Walk
 pub mod Distances
 pub mod Refusals
+pub mod Table
+pub mod Limits
