@@ -2,23 +2,21 @@
 use Prim.Native.Nat.{ℕ, zero, suc, _+_, _-_, _*_, _≤_, _<_, zero-le}
 use mathlib.Core.Path.{_≡_, refl, sym, ap, ap₂, _∙_}
 use mathlib.Core.Logic.{_≢_, _⊎_, inl, inr, ⊎-elim}
-use mathlib.Core.Bool.{Bool, true, false, not, _&&_}
+use mathlib.Core.Bool.{Bool, true, false}
 use mathlib.Core.List.{List, [], _∷_}
 use native.Mathlib.Nat.{mul-le-mul, le-trans, lt-irrefl}
 use native.Mathlib.Decide.{decLe}
 use native.Mathlib.Omega.{arith}
-use lib.Dec.{ltb, eqb}
 use lib.IntN.{ℤ, pos, negsuc, _-ℤ_, natAbs}
 use lib.ListN.{length, take, drop, length-take, length-drop}
-use borrow.Author.Tests.{ltb-true}
 use Rattle.rules.specs.Points.{dist, coordinates, apart}
 use Rattle.rules.specs.Edges.{direct}
 use Rattle.rules.specs.Labels.{notAbove, largest, labelOf, leads, label, cell}
-use Rattle.laws.proofs.Tests.{both, and-r, le-or-lt}
+use Rattle.laws.proofs.Tests.{both, le-or-lt}
 use Rattle.laws.proofs.Order.{first-some, first-cases}
 use Rattle.laws.proofs.Labels.{reaches-facts, reaches-less}
 use Rattle.laws.proofs.Refusals.{SetOk, room}
-use Rattle.laws.proofs.Table.{cell-direct, cell-label, label-none, label-some}
+use Rattle.laws.proofs.Table.{cell-direct, cell-label, label-none, label-some, leads-is}
 
 -- ---- the largest label
 
@@ -62,10 +60,11 @@ label-limit duv dwv h k =
 module _ (δ : ℕ → ℕ → ℕ) (n : ℕ) (small : (u v : ℕ) → u < n → v < n → δ u v ≤ 4161600) (alike : (u v w : ℕ) → u < n → v < n → w < n → δ w v ≡ 0 → δ u w ≡ δ u v) where
   -- a point that leads towards v is not at v
   leads-apart : (u v w : ℕ) → u < n → v < n → w < n → leads δ n u v w ≡ true → 1 ≤ δ w v
-  unfolding leads
   leads-apart u v w lu lv lw e =
-      let less = ltb-true (δ u w) (δ u v) (and-r (direct δ n u w) _ (and-r (not (eqb u w)) _ e)) in
-      ⊎-elim (λ z. absurd (lt-irrefl (δ u v) (omega (arith, alike u v w lu lv lw (omega arith))))) (λ h. h) (le-or-lt (δ w v) 0)
+      ⊎-elim
+      (λ z. absurd (lt-irrefl (δ u v) (omega (arith, leads-is δ n u v w .0 e .2, alike u v w lu lv lw (omega arith)))))
+      (λ h. h)
+      (le-or-lt (δ w v) 0)
 
   pub cell-limit : (u v : ℕ) → u < n → v < n → u ≢ v → cell δ n u v ≤ 32624
   cell-limit u v lu lv d =

@@ -2,7 +2,7 @@
 -- threshold. Assumes nothing.
 use Prim.Native.Nat.{ℕ, zero, suc, _+_, _*_, _/_, _%_, _<_, zero-le}
 use mathlib.Core.Path.{_≡_, refl, sym, ap, ap₂, _∙_}
-use mathlib.Core.Logic.{_≢_, ⊎-elim}
+use mathlib.Core.Logic.{_↔_, _≢_, ⊎-elim}
 use mathlib.Core.Bool.{Bool, true, false, cond, not, _&&_}
 use mathlib.Core.Option.{Option, none, some}
 use mathlib.Core.List.{_∷_}
@@ -11,11 +11,11 @@ use native.Mathlib.Omega.{arith}
 use lib.Arith.{digits-lt, digits-div, digits-mod}
 use lib.Dec.{leb, eqb}
 use lib.ListN.{length, getD}
-use borrow.Author.Tests.{eq-eqb, ne-eqb, le-leb}
+use borrow.Author.Tests.{ltb-true, lt-ltb, eq-eqb, ne-eqb, eqb-false, not-true, le-leb}
 use Rattle.rules.specs.Order.{pick, first}
 use Rattle.rules.specs.Edges.{keptIn, between, direct, Closing, Symmetric}
 use Rattle.rules.specs.Labels.{labelOf, tabulate, leads, label, cell, tableOf, edgeIn}
-use Rattle.laws.proofs.Tests.{and-i, any-same}
+use Rattle.laws.proofs.Tests.{and-l, and-r, and-i, any-same}
 use Rattle.laws.proofs.Order.{first-some, first-cases, first-same}
 use Rattle.laws.proofs.Edges.{direct-closing, closing-more}
 
@@ -58,6 +58,19 @@ module _ (δ : ℕ → ℕ → ℕ) (n : ℕ) where
   unfolding cell
   cell-label u v d e = rw (ne-eqb u v d, e)
 
+  -- what it is to lead
+  pub leads-is : (u v w : ℕ) → (leads δ n u v w ≡ true) ↔ ((u ≢ w) × (direct δ n u w ≡ true) × (δ u w < δ u v))
+  unfolding leads
+  leads-is u v w = (
+    λ e.
+        let r = and-r (not (eqb u w)) _ e in (
+          eqb-false u w (not-true (eqb u w) (and-l (not (eqb u w)) _ e)),
+          and-l (direct δ n u w) _ r,
+          ltb-true (δ u w) (δ u v) (and-r (direct δ n u w) _ r),
+        ),
+    λ h. and-i (not (eqb u w)) _ (ap not (ne-eqb u w (h .0))) (and-i (direct δ n u w) _ (h .1) (lt-ltb (δ u w) (δ u v) (h .2))),
+  )
+
   -- the label, by the leading point that is found
 
   pub label-none : (u v : ℕ) → first (λ w. δ w v) n (leads δ n u v) ≡ none → label δ n u v ≡ 0
@@ -95,7 +108,8 @@ unfolding tabulate
 tabulate-same zero f g h = refl
 tabulate-same (suc k) f g h = ap₂ (λ x l. x ∷ l) (h 0 (omega arith)) (tabulate-same k (λ i. f (suc i)) (λ i. g (suc i)) (λ i l. h (suc i) (omega arith)))
 
-some-row : (n i : ℕ) → i < n * n → 0 < n
+-- a table with a cell has a row
+pub some-row : (n i : ℕ) → i < n * n → 0 < n
 some-row zero i l = absurd (not-suc-le-zero l)
 some-row (suc n) i l = omega arith
 
