@@ -1,6 +1,7 @@
 // The label table of a set.
 ghost use mathlib.Core.Path.{_≡_};
-ghost use Prim.Native.Nat.{_*_, _≤_, min};
+ghost use Prim.Native.Nat.{_-_, _*_, _<_, _≤_, min};
+ghost use mathlib.Core.Bool.{cond};
 ghost use lib.ListN.{length};
 ghost use Rattle.rules.specs.Points.{apart};
 ghost use Rattle.rules.specs.Labels.{reaches, labelOf, tableOf};
@@ -17,17 +18,27 @@ fn capped(x: u32) -> u32
     if x < 4161600 { x } else { 4161600 }
 }
 
-// Whether t does not exceed the root of a less the root of b.
-fn is_reached(a: u64, b: u64, t: u64) -> bool
-    requires { ⌜ (a ≤ 1065369600) × (b ≤ 1065369600) × (t ≤ 32767) ⌝ }
-    ensures { λ r. ⌜ r ≡ reaches a b (t * t) ⌝ }
+fn less(x: u64, y: u64) -> u64
+    ensures { λ r. ⌜ r ≡ x - y ⌝ }
+{
+    if x < y { 0 } else { x - y }
+}
+
+fn either(test: bool, x: u64, y: u64) -> u64
+    ensures { λ r. ⌜ r ≡ cond test x y ⌝ }
+{
+    if test { x } else { y }
+}
+
+// t where it does not exceed the root of a less the root of b, and low where it does. Both tests are made each time, so that the code has no branch.
+fn further(a: u64, b: u64, low: u64, t: u64) -> u64
+    requires { ⌜ (a ≤ 1065369600) × (b ≤ 1065369600) × (0 < t) × (t ≤ 32767) ⌝ }
+    ensures { λ r. ⌜ r ≡ cond (reaches a b (t * t)) t low ⌝ }
 {
     let s = t * t;
-    if a < b + s {
-        return false;
-    }
-    let x = a - b - s;
-    4 * s * b <= x * x
+    let most = less(a, b);
+    let x = less(most, s);
+    either(4 * s * b <= x * x, either(s <= most, t, low), low)
 }
 
 // The label of an edge from D(u,v) and D(w,v), by halving. A number past the largest squared distance counts as that.
@@ -37,14 +48,11 @@ pub fn label(duv: u32, dwv: u32) -> u16
     let a = 256 * (capped(duv) as u64);
     let b = 256 * (capped(dwv) as u64);
     let mut low: u64 = 0;
-    let mut high: u64 = 32768;
-    while 1 < high - low {
-        let t = low + (high - low) / 2;
-        if is_reached(a, b, t) {
-            low = t;
-        } else {
-            high = t;
-        }
+    let mut width: u64 = 32768;
+    while 1 < width {
+        let half = width / 2;
+        low = further(a, b, low, low + half);
+        width -= half;
     }
     low as u16
 }
