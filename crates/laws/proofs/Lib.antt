@@ -14,3 +14,5 @@ pub mod Ends
 pub mod Walk
 pub mod Distances
 pub mod Refusals
+pub mod Table
+pub mod Limits
