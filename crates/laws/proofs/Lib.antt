@@ -11,3 +11,9 @@ pub mod Demand3
 pub mod Walk
 pub mod Distances
 pub mod Refusals
+pub mod Bits
+pub mod Packing
+pub mod Asks
+pub mod Writable
+pub mod RoundTrip
+pub mod OneAsk
