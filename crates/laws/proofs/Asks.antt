@@ -15,7 +15,7 @@ use Rattle.rules.specs.Outcome.{orElse}
 use Rattle.rules.specs.Refusals.{outside, askRefusal, asksRefusal}
 use Rattle.laws.proofs.Tests.{or-off, or-off-r}
 use Rattle.laws.proofs.Refusals.{else-both, skipped, inside}
-use Rattle.laws.proofs.Bits.{length-bits, number-bits-lt, bits-of-number, number-lt, length-valueBits, length-values, values-back, valueBits-back, values-fit, fit-take, fit-drop, fit-append}
+use Rattle.laws.proofs.Bits.{length-bits, number-bits-lt, bits-of-number, taken-small, length-valueBits, length-values, values-back, valueBits-back, values-fit, fit-take, fit-drop, fit-append}
 
 -- the field of w bits in front: its number, and what follows it
 pub front : (w v : ℕ) (rest : List Bool) → v < 2 ^ w → number (take w (bits w v ++ rest)) ≡ v
@@ -27,9 +27,6 @@ past-field w v rest = drop-at (bits w v) rest w (length-bits w v)
 -- bits that are taken out and written again
 pub again : (w : ℕ) (bs : List Bool) → w ≤ length bs → bits w (number (take w bs)) ≡ take w bs
 again w bs h = bits-of-number w (take w bs) (length-take-le w bs h)
-
-pub taken-lt : (w : ℕ) (bs : List Bool) → w ≤ length bs → number (take w bs) < 2 ^ w
-taken-lt w bs h = rw (length-take-le w bs h) at (number-lt (take w bs))
 
 -- a number that was raised by 1 and lowered
 pub less-one : (x : ℕ) → x + 1 - 1 ≡ x
@@ -185,13 +182,13 @@ pub length-numbersIn : (bs : List Bool) → length (numbersIn bs) ≡ 4
 unfolding numbersIn
 length-numbersIn bs = refl
 
-pub numbers-fit : (bs : List Bool) (more : List ℕ) → 36 ≤ length bs → AskOk (numbersIn bs ++ more)
+pub numbers-fit : (bs : List Bool) (more : List ℕ) → AskOk (numbersIn bs ++ more)
 unfolding numbersIn
-numbers-fit bs more h =
-    let a = taken-lt 7 bs (omega arith) in
-    let b = taken-lt 7 (drop 7 bs) (rw length-drop (omega arith)) in
-    let c = taken-lt 7 (drop 14 bs) (rw length-drop (omega arith)) in
-    let d = taken-lt 15 (drop 21 bs) (rw length-drop (omega arith)) in
+numbers-fit bs more =
+    let a = taken-small 7 bs in
+    let b = taken-small 7 (drop 7 bs) in
+    let c = taken-small 7 (drop 14 bs) in
+    let d = taken-small 15 (drop 21 bs) in
     omega arith
 
 -- ---- the asks
@@ -317,20 +314,20 @@ module _ (d c : ℕ) where
           drop-drop (d * c) 36 bs,
         )
 
-    pub asks-fit : (a : ℕ) (bs : List Bool) → a * (36 + d * c) ≤ length bs → asksRefusal a (allNumbers d c a bs) ≡ 0
+    pub asks-fit : (a : ℕ) (bs : List Bool) → asksRefusal a (allNumbers d c a bs) ≡ 0
     unfolding asksRefusal
-    asks-fit zero bs h = refl
-    asks-fit (suc a) bs h =
+    asks-fit zero bs = refl
+    asks-fit (suc a) bs =
         let more = allNumbers d c a (drop (36 + d * c) bs) in
         rw (allNumbers-suc a bs)
         (asks-join a (numbersIn bs ++ more)
-        (ask-none (numbersIn bs ++ more) (numbers-fit bs more (omega arith)))
-        (rw (past-four bs more) (asks-fit a (drop (36 + d * c) bs) (rw length-drop (omega arith)))))
+        (ask-none (numbersIn bs ++ more) (numbers-fit bs more))
+        (rw (past-four bs more) (asks-fit a (drop (36 + d * c) bs))))
 
-    pub queries-fit : (a : ℕ) (bs : List Bool) → a * (36 + d * c) ≤ length bs → allFit c (allQueries d c a bs) ≡ true
+    pub queries-fit : (a : ℕ) (bs : List Bool) → allFit c (allQueries d c a bs) ≡ true
     unfolding allFit allQueries
-    queries-fit zero bs h = refl
-    queries-fit (suc a) bs h =
+    queries-fit zero bs = refl
+    queries-fit (suc a) bs =
         fit-append c (values c d (drop 36 bs)) (allQueries d c a (drop (36 + d * c) bs))
-        (values-fit c c-0 d (drop 36 bs) (rw length-drop (omega arith)))
-        (queries-fit a (drop (36 + d * c) bs) (rw length-drop (omega arith)))
+        (values-fit c c-0 d (drop 36 bs))
+        (queries-fit a (drop (36 + d * c) bs))

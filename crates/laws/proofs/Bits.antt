@@ -3,13 +3,13 @@ use mathlib.Core.Path.{_≡_, refl, sym, ap, ap₂, _∙_, subst}
 use mathlib.Core.Bool.{Bool, true, false, _&&_}
 use mathlib.Core.List.{List, [], _∷_, _++_, append-assoc, append-nil}
 use Prim.Native.Nat.{ℕ, zero, suc, _+_, _-_, _*_, _/_, _%_, _^_, _≤_, _<_}
-use native.Mathlib.Nat.{mod-lt, mod-one, mod-eq-of-lt, zero-lt-suc, mul-add-mod-self-right, add-mul-div-right, div-add-mod', pow-suc, suc-mul, mul-assoc, add-comm}
+use native.Mathlib.Nat.{lt-of-lt-of-le, mod-lt, mod-one, mod-eq-of-lt, zero-lt-suc, mul-add-mod-self-right, add-mul-div-right, div-add-mod', pow-suc, suc-mul, mul-assoc, add-comm}
 use native.Mathlib.Numerals.{one-add, add-one}
 use native.Mathlib.Omega.{arith}
 use lib.ListN.{length, take, drop, getD, replicate, length-append, length-replicate, length-take, length-drop, take-append-drop}
 use lib.Seq.{take-at, drop-at, length-take-le, take-add, drop-drop, take-append-le}
 use lib.Arith.{digits-lt, digits-mod, comp-comp}
-use lib.Pow.{pow-pos, pow-add, mod-pow-add, high}
+use lib.Pow.{pow-pos, pow-mono, pow-add, mod-pow-add, high}
 use lib.Dec.{T, eqb, ltb, lit<}
 use borrow.Author.Tests.{lt-ltb, le-ltb, ltb-true}
 use native.Mathlib.Decide.{decLe}
@@ -74,6 +74,9 @@ number-lt [] = lit< tt
 number-lt (b ∷ bs) =
     let h : bit b * 2 ^ length bs + number bs < 2 ^ suc (length bs) = omega (arith, digits-lt (bit-lt b) (number-lt bs)) in h
 
+pub taken-small : (w : ℕ) (bs : List Bool) → number (take w bs) < 2 ^ w
+taken-small w bs = lt-of-lt-of-le (number-lt (take w bs)) (pow-mono {j = w} (rw (length-take w bs) (omega arith)))
+
 -- what stands above the w bits does not matter
 pub bits-above : (w x v : ℕ) → bits w (x * 2 ^ w + v) ≡ bits w v
 unfolding bits
@@ -132,7 +135,7 @@ zeros-of-number (true ∷ bs) e = absurd (omega (arith, pow-pos (length bs)))
 pub by-lt {ℓ} : {X : Type ℓ} (a b : ℕ) → (a < b → X) → (b ≤ a → X) → X
 by-lt a b f g = elim (decLe b a) [ yes h ↦ g h | no h ↦ f (lt-of-not-le h) ]
 
-half : (c : ℕ) → 1 ≤ c → 2 ^ c ≡ 2 * 2 ^ (c - 1)
+pub half : (c : ℕ) → 1 ≤ c → 2 ^ c ≡ 2 * 2 ^ (c - 1)
 half zero h = omega arith
 half (suc c) h = let e : suc c - 1 ≡ c = omega arith in rw e (omega arith)
 
@@ -212,21 +215,17 @@ module _ (c : ℕ) (c-0 : 1 ≤ c) where
   valueBits-back (suc m) bs h =
       let e : suc m * c ≡ c + m * c = omega arith in
       let l : length (take c bs) ≡ c = length-take-le c bs (omega arith) in
-      let u : number (take c bs) < 2 ^ c = rw l at (number-lt (take c bs)) in
       let r : m * c ≤ length (drop c bs) = rw length-drop (omega arith) in
       ap₂ (λ (a b : List Bool). a ++ b)
-      (ap (bits c) (twos-signed c (number (take c bs)) u) ∙ bits-of-number c (take c bs) l)
+      (ap (bits c) (twos-signed c (number (take c bs)) (taken-small c bs)) ∙ bits-of-number c (take c bs) l)
       (valueBits-back m (drop c bs) r)
       ∙ sym (take-add c (m * c) bs) ∙ ap (λ (k : ℕ). take k bs) (sym e)
 
-  pub values-fit : (m : ℕ) (bs : List Bool) → m * c ≤ length bs → allFit c (values c m bs) ≡ true
+  pub values-fit : (m : ℕ) (bs : List Bool) → allFit c (values c m bs) ≡ true
   unfolding allFit values
-  values-fit zero bs h = refl
-  values-fit (suc m) bs h =
-      let l : length (take c bs) ≡ c = length-take-le c bs (omega arith) in
-      let u : number (take c bs) < 2 ^ c = rw l at (number-lt (take c bs)) in
-      let r : m * c ≤ length (drop c bs) = rw length-drop (omega arith) in
-      and-i (fits c (signed c (number (take c bs)))) (allFit c (values c m (drop c bs))) (signed-fits c (number (take c bs)) c-0 u) (values-fit m (drop c bs) r)
+  values-fit zero bs = refl
+  values-fit (suc m) bs =
+      and-i (fits c (signed c (number (take c bs)))) (allFit c (values c m (drop c bs))) (signed-fits c (number (take c bs)) c-0 (taken-small c bs)) (values-fit m (drop c bs))
 
 -- ---- values that fit, in parts
 

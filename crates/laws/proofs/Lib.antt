@@ -14,6 +14,7 @@ pub mod Refusals
 pub mod Bits
 pub mod Packing
 pub mod Asks
+pub mod Fields
 pub mod Writable
 pub mod RoundTrip
 pub mod OneAsk

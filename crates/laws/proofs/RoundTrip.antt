@@ -13,8 +13,9 @@ use Rattle.rules.specs.Sheet.{Contents, headBits, askBits, sheetBits, sheet, bi
 use Rattle.rules.specs.Refusals.{sheetRefusal, writerRefusal}
 use Rattle.laws.proofs.Bits.{length-bits, length-valueBits, length-values, values-back, valueBits-back, values-fit, zeros-of-number, length-zeros, number-zeros}
 use Rattle.laws.proofs.Packing.{length-packed, length-unpacked, packed-unpacked, length-filled, length-bytesOf, unpacked-bytesOf}
+use Rattle.laws.proofs.Fields.{points-small, coords-small, width-small}
 use Rattle.laws.proofs.Writable.{Writable, not-refused, Readable, readable, read-none}
-use Rattle.laws.proofs.Asks.{row-1, row-2, row-3, row-4, row-past, row-again, length-row, taken-lt, less-one, length-askBits, numbers-back, queries-back, asks-again, asks-fit, queries-fit, length-allNumbers, length-allQueries}
+use Rattle.laws.proofs.Asks.{row-1, row-2, row-3, row-4, row-past, row-again, length-row, less-one, length-askBits, numbers-back, queries-back, asks-again, asks-fit, queries-fit, length-allNumbers, length-allQueries}
 
 -- ---- the sheet's length
 
@@ -172,8 +173,7 @@ module _ (ys : List ℕ) (small : Bytes ys) (ok : sheetRefusal ys ≡ 0) where
   long = enough
 
   width-0 : 1 ≤ width ys
-  unfolding width
-  width-0 = omega arith
+  width-0 = width-small ys .0
 
   head-again : headBits (points ys) (coords ys) (width ys) (askCount ys) ≡ take 24 U
   unfolding headBits points coords width askCount fieldAt
@@ -220,33 +220,24 @@ module _ (ys : List ℕ) (small : Bytes ys) (ok : sheetRefusal ys ≡ 0) where
       let l : length (take (required ys) U) ≡ required ys = length-take-le (required ys) U enough in
       rw (written, l, ← (p .long), ← filling-is, take-append-drop (required ys) U) (packed-unpacked ys small)
 
-  header-small : (1 ≤ points ys) × (points ys ≤ 128) × (1 ≤ coords ys) × (coords ys ≤ 64) × (width ys ≤ 8)
-  unfolding points coords width fieldAt
-  header-small =
-      let l : 24 ≤ length U = omega (arith, long) in
-      let a = taken-lt 7 (drop 0 U) (omega arith) in
-      let b = taken-lt 6 (drop 7 U) (rw length-drop (omega arith)) in
-      let e = taken-lt 3 (drop 13 U) (rw length-drop (omega arith)) in
-      omega arith
-
   -- and what was read can be written
   pub read-writable : Writable (contentsOf ys)
   unfolding contentsOf vectorsOf
   read-writable =
       record {
-        some-points = header-small .0;
-        few-points = header-small .1;
-        some-coordinates = header-small .2;
-        few-coordinates = header-small .3;
+        some-points = points-small ys .0;
+        few-points = points-small ys .1;
+        some-coordinates = coords-small ys .0;
+        few-coordinates = coords-small ys .1;
         some-width = width-0;
-        few-width = header-small .4;
+        few-width = width-small ys .1;
         few-asks = p .few-asks;
         numbers-are = length-allNumbers (coords ys) (width ys) (askCount ys) (drop (askPlace ys 0) U);
         vectors-are = length-values (width ys) (points ys * coords ys) (drop 24 U);
         queries-are = length-allQueries (coords ys) (width ys) (askCount ys) (drop (askPlace ys 0) U);
-        asks-fit = asks-fit (coords ys) (width ys) width-0 (askCount ys) (drop (askPlace ys 0) U) rest-long;
-        vectors-fit = values-fit (width ys) width-0 (points ys * coords ys) (drop 24 U) (rw (length-drop 24 U) (omega (arith, long)));
-        queries-fit = queries-fit (coords ys) (width ys) width-0 (askCount ys) (drop (askPlace ys 0) U) rest-long;
+        asks-fit = asks-fit (coords ys) (width ys) width-0 (askCount ys) (drop (askPlace ys 0) U);
+        vectors-fit = values-fit (width ys) width-0 (points ys * coords ys) (drop 24 U);
+        queries-fit = queries-fit (coords ys) (width ys) width-0 (askCount ys) (drop (askPlace ys 0) U);
       }
 
   -- into any output that has room for its bytes it is not refused

@@ -97,14 +97,17 @@ not-refused k output w room =
     )
 
 -- the largest sheet has 135,156 bits, in 16,895 bytes
-pub few-bits : (n d c asks : ℕ) → n ≤ 128 → d ≤ 64 → c ≤ 8 → asks ≤ 127 → bitCount n d c asks ≤ 135156
-unfolding bitCount
-few-bits n d c asks hn hd hc ha =
-    let a : n * d * c ≤ 128 * 64 * 8 = mul-le-mul (mul-le-mul hn hd) hc in
+pub few-products : (n d c asks : ℕ) → n ≤ 128 → d ≤ 64 → c ≤ 8 → asks ≤ 127
+    → (n * d ≤ 8192) × (n * d * c ≤ 65536) × (d * c ≤ 512) × (asks * (36 + d * c) ≤ 69596)
+few-products n d c asks hn hd hc ha =
+    let a : n * d ≤ 128 * 64 = mul-le-mul hn hd in
     let b : d * c ≤ 64 * 8 = mul-le-mul hd hc in
     let e : 36 + d * c ≤ 548 = omega arith in
-    let f : asks * (36 + d * c) ≤ 127 * 548 = mul-le-mul ha e in
-    omega (arith, a, f)
+    (a, mul-le-mul a hc, b, mul-le-mul ha e)
+
+pub few-bits : (n d c asks : ℕ) → n ≤ 128 → d ≤ 64 → c ≤ 8 → asks ≤ 127 → bitCount n d c asks ≤ 135156
+unfolding bitCount
+few-bits n d c asks hn hd hc ha = omega (arith, few-products n d c asks hn hd hc ha)
 
 pub few-bytes : (n d c asks : ℕ) → n ≤ 128 → d ≤ 64 → c ≤ 8 → asks ≤ 127 → sheetLength n d c asks ≤ 16895
 unfolding sheetLength byteCount

@@ -1,0 +1,2 @@
+-- What the contracts of `sheet` cite besides the definitions of `rules`.
+pub mod Answers
