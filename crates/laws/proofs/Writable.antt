@@ -12,7 +12,7 @@ use borrow.Author.Tests.{le-ltb, ltb-false, eq-eqb, not-false}
 use Rattle.rules.specs.Bits.{byteCount, allFit}
 use Rattle.rules.specs.Sheet.{Contents, bitCount, sheetLength, points, coords, width, askCount, required, filling}
 use Rattle.rules.specs.Outcome.{orElse, firstOf}
-use Rattle.rules.specs.Refusals.{outside, differ, refuse13, refuse14, asksRefusal, writerRefusal, sheetRefusal}
+use Rattle.rules.specs.Refusals.{outside, differ, refuse1, refuse2, refuse3, refuse5, refuse11, refuse12, refuse13, refuse14, asksRefusal, writerRefusal, sheetRefusal}
 use Rattle.laws.proofs.Tests.{or-off, or-off-r, and-l, and-r}
 use Rattle.laws.proofs.Refusals.{else-both, skipped, inside, alike}
 
@@ -33,44 +33,83 @@ pub record Writable (k : Contents) : Type 0 where
   pub vectors-fit : allFit (k .c) (k .vectors) ≡ true
   pub queries-fit : allFit (k .c) (k .queries) ≡ true
 
+-- the limits and the lengths: 1, 2, 11, 12, 3, 5
+unfoldable pub shapeRefusal : (n d c asks vectors numbers queries : ℕ) → ℕ
+shapeRefusal n d c asks vectors numbers queries =
+    firstOf
+    (refuse1 n
+    ∷ refuse2 d
+    ∷ refuse11 c
+    ∷ refuse12 asks numbers
+    ∷ refuse3 n d vectors
+    ∷ refuse5 (asks * d) queries
+    ∷ [])
+
+pub record Shaped (n d c asks vectors numbers queries : ℕ) : Type 0 where
+  pub points : (1 ≤ n) × (n ≤ 128)
+  pub coordinates : (1 ≤ d) × (d ≤ 64)
+  pub width : (1 ≤ c) × (c ≤ 8)
+  pub asks-few : asks ≤ 127
+  pub numbers-are : numbers ≡ 4 * asks
+  pub vectors-are : vectors ≡ n * d
+  pub queries-are : queries ≡ asks * d
+
+pub shaped : (n d c asks vectors numbers queries : ℕ) → shapeRefusal n d c asks vectors numbers queries ≡ 0
+    → Shaped n d c asks vectors numbers queries
+unfolding shapeRefusal
+shaped n d c asks vectors numbers queries e =
+    let p₁ = skipped (outside 1 128 n) 0 _ e in
+    let p₂ = skipped (outside 1 64 d) 1 _ (p₁ .1) in
+    let p₃ = skipped (outside 1 8 c) 10 _ (p₂ .1) in
+    let p₄ = skipped (ltb 127 asks || differ numbers (4 * asks)) 11 _ (p₃ .1) in
+    let p₅ = skipped (differ vectors (n * d)) 2 _ (p₄ .1) in
+    let p₆ = skipped (differ queries (asks * d)) 4 _ (p₅ .1) in
+    record {
+      points = inside 1 128 n (p₁ .0);
+      coordinates = inside 1 64 d (p₂ .0);
+      width = inside 1 8 c (p₃ .0);
+      asks-few = ltb-false 127 asks (or-off (ltb 127 asks) (differ numbers (4 * asks)) (p₄ .0));
+      numbers-are = alike numbers (4 * asks) (or-off-r (ltb 127 asks) (differ numbers (4 * asks)) (p₄ .0));
+      vectors-are = alike vectors (n * d) (p₅ .0);
+      queries-are = alike queries (asks * d) (p₆ .0);
+    }
+
 abbrev refusalAt : Contents → ℕ → ℕ
 refusalAt k output = writerRefusal (k .n) (k .d) (k .c) (k .asks) (k .vectors) (k .numbers) (k .queries) output
 
 abbrev lengthOf : Contents → ℕ
 lengthOf k = sheetLength (k .n) (k .d) (k .c) (k .asks)
 
+-- what comes after the limits, the lengths and the asks: 13, 14
+abbrev lastOf : Contents → ℕ → ℕ
+lastOf k output = firstOf (refuse13 (k .c) (k .vectors) (k .queries) ∷ refuse14 (lengthOf k) output ∷ [])
+
 -- contents that are not refused, with room for the sheet
 pub writable : (k : Contents) (output : ℕ) → refusalAt k output ≡ 0 → Writable k × (lengthOf k ≤ output)
-unfolding writerRefusal
+unfolding writerRefusal shapeRefusal
 writable k output e =
-    let p = else-both _ (orElse (asksRefusal (k .asks) (k .numbers)) (firstOf (refuse13 (k .c) (k .vectors) (k .queries) ∷ refuse14 (lengthOf k) output ∷ []))) e in
-    let q = else-both (asksRefusal (k .asks) (k .numbers)) (firstOf (refuse13 (k .c) (k .vectors) (k .queries) ∷ refuse14 (lengthOf k) output ∷ [])) (p .1) in
-    let a = skipped (outside 1 128 (k .n)) 0 _ (p .0) in
-    let b = skipped (outside 1 64 (k .d)) 1 _ (a .1) in
-    let f = skipped (outside 1 8 (k .c)) 10 _ (b .1) in
-    let g = skipped (ltb 127 (k .asks) || differ (length (k .numbers)) (4 * k .asks)) 11 _ (f .1) in
-    let v = skipped (differ (length (k .vectors)) (k .n * k .d)) 2 _ (g .1) in
-    let w = skipped (differ (length (k .queries)) (k .asks * k .d)) 4 _ (v .1) in
-    let x = skipped (not (allFit (k .c) (k .vectors) && allFit (k .c) (k .queries))) 12 _ (q .1) in
+    let asks = asksRefusal (k .asks) (k .numbers) in
+    let fit = allFit (k .c) (k .vectors) && allFit (k .c) (k .queries) in
+    let p = else-both (shapeRefusal (k .n) (k .d) (k .c) (k .asks) (length (k .vectors)) (length (k .numbers)) (length (k .queries))) (orElse asks (lastOf k output)) e in
+    let q = else-both asks (lastOf k output) (p .1) in
+    let s = shaped (k .n) (k .d) (k .c) (k .asks) (length (k .vectors)) (length (k .numbers)) (length (k .queries)) (p .0) in
+    let x = skipped (not fit) 12 _ (q .1) in
     let y = skipped (ltb output (lengthOf k)) 13 _ (x .1) in
-    let n = inside 1 128 (k .n) (a .0) in
-    let d = inside 1 64 (k .d) (b .0) in
-    let c = inside 1 8 (k .c) (f .0) in
-    let fit = not-false (allFit (k .c) (k .vectors) && allFit (k .c) (k .queries)) (x .0) in (
+    let all = not-false fit (x .0) in (
       record {
-        some-points = n .0;
-        few-points = n .1;
-        some-coordinates = d .0;
-        few-coordinates = d .1;
-        some-width = c .0;
-        few-width = c .1;
-        few-asks = ltb-false 127 (k .asks) (or-off (ltb 127 (k .asks)) (differ (length (k .numbers)) (4 * k .asks)) (g .0));
-        numbers-are = alike (length (k .numbers)) (4 * k .asks) (or-off-r (ltb 127 (k .asks)) (differ (length (k .numbers)) (4 * k .asks)) (g .0));
-        vectors-are = alike (length (k .vectors)) (k .n * k .d) (v .0);
-        queries-are = alike (length (k .queries)) (k .asks * k .d) (w .0);
+        some-points = s .points .0;
+        few-points = s .points .1;
+        some-coordinates = s .coordinates .0;
+        few-coordinates = s .coordinates .1;
+        some-width = s .width .0;
+        few-width = s .width .1;
+        few-asks = s .asks-few;
+        numbers-are = s .numbers-are;
+        vectors-are = s .vectors-are;
+        queries-are = s .queries-are;
         asks-fit = q .0;
-        vectors-fit = and-l (allFit (k .c) (k .vectors)) (allFit (k .c) (k .queries)) fit;
-        queries-fit = and-r (allFit (k .c) (k .vectors)) (allFit (k .c) (k .queries)) fit;
+        vectors-fit = and-l (allFit (k .c) (k .vectors)) (allFit (k .c) (k .queries)) all;
+        queries-fit = and-r (allFit (k .c) (k .vectors)) (allFit (k .c) (k .queries)) all;
       },
       ltb-false output (lengthOf k) (y .0),
     )

@@ -4,3 +4,8 @@ pub mod Signs
 pub mod Reading
 pub mod Filled
 pub mod Entered
+pub mod Putting
+pub mod Refusing
+pub mod Asking
+pub mod Bytewise
+pub mod Whole

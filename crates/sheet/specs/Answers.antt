@@ -4,9 +4,11 @@ use mathlib.Core.List.{List}
 use Rattle.rules.specs.Outcome.{Outcome, refused, gives}
 use Rattle.rules.specs.Sheet.{points, coords, width, askCount}
 use Rattle.rules.specs.Entries.{Header, Numbers}
+use Rattle.sheet.specs.declared.Written.{Written}
+use Rattle.sheet.specs.declared.Written.the-variants as written
 use Rattle.sheet.specs.declared.Head.{Head}
 use Rattle.sheet.specs.declared.Headed.{Headed}
-use Rattle.sheet.specs.declared.Headed.the-variants.{Refused, Holds}
+use Rattle.sheet.specs.declared.Headed.the-variants as headed
 use Rattle.sheet.specs.declared.Asked.{Asked}
 use Rattle.sheet.specs.declared.Asked.the-variants as asked
 
@@ -14,9 +16,13 @@ use Rattle.sheet.specs.declared.Asked.the-variants as asked
 abbrev pub headOf : List ℕ → Head
 headOf ys = record { n = points ys; d = coords ys; c = width ys; asks = askCount ys }
 
+abbrev pub writeTold : Written → Outcome ℕ
+writeTold (written.Refused r) = refused r
+writeTold (written.Length l) = gives l
+
 abbrev pub headTold : Headed → Outcome Header
-headTold (Refused r) = refused r
-headTold (Holds h) = gives (record { n = h .n; d = h .d; c = h .c; asks = h .asks })
+headTold (headed.Refused r) = refused r
+headTold (headed.Holds h) = gives (record { n = h .n; d = h .d; c = h .c; asks = h .asks })
 
 abbrev pub askTold : Asked → Outcome Numbers
 askTold (asked.Refused r) = refused r

@@ -1,2 +1,3 @@
 -- What the contracts of `sheet` cite besides the definitions of `rules`.
 pub mod Answers
+pub mod Put

@@ -1,13 +1,21 @@
 // Writes and reads test sheets (document 01, "Test sheet").
 mod fields;
+mod put;
 mod read;
+mod refuse;
 mod values;
 
 ghost use mathlib.Core.Path.{_≡_};
 ghost use lib.ListN.{length};
+ghost use Rattle.rules.specs.Sheet.{contents};
 ghost use Rattle.rules.specs.Refusals.{vectorsRefusal};
-ghost use Rattle.rules.specs.Entries.{headerAnswer, vectorsAfter, askAnswer, queryAfter};
-ghost use Rattle.sheet.specs.Answers.{headTold, askTold};
+ghost use Rattle.rules.specs.Entries.{writeAnswer, outputAfter, headerAnswer, vectorsAfter, askAnswer, queryAfter};
+ghost use Rattle.sheet.specs.Answers.{writeTold, headTold, askTold};
+
+pub enum Written {
+    Refused(u8),
+    Length(usize),
+}
 
 // What a sheet's header holds: n points of d coordinates, the coordinate width c and the ask count.
 pub struct Head {
@@ -31,6 +39,28 @@ pub enum Asked {
         k: u16,
         threshold: u16,
     },
+}
+
+// Writes a sheet of n points of d coordinates, each coordinate in c bits, and of asks: four numbers (start, width, k, threshold) and a
+// query for each. Answers the sheet's length, and leaves the bytes past it as they were.
+pub fn write(
+    n: usize,
+    d: usize,
+    c: usize,
+    asks: usize,
+    vectors: &[i8],
+    numbers: &[u16],
+    queries: &[i8],
+    output: &mut [u8],
+) -> Written
+    ensures { λ r. ⌜ (writeTold r ≡ writeAnswer (contents n d c asks (now (vectors .entry)) (now (numbers .entry)) (now (queries .entry))) (now (output .entry)))
+        × (now (output .exit) ≡ outputAfter (contents n d c asks (now (vectors .entry)) (now (numbers .entry)) (now (queries .entry))) (now (output .entry))) ⌝ }
+{
+    let refusal = refuse::writer_refusal(n, d, c, asks, vectors, numbers, queries, output.len());
+    if refusal != 0 {
+        return Written::Refused(refusal);
+    }
+    Written::Length(put::put_sheet(n, d, c, asks, vectors, numbers, queries, output))
 }
 
 // Reads n, d, c and the ask count.
