@@ -88,7 +88,7 @@ pub length-numberBits : (ns : List ℕ) → length (numberBits ns) ≡ 36
 unfolding numberBits
 length-numberBits ns = simp (length-append, length-bits)
 
-four : (ns : List ℕ) → 4 ≤ length ns → take 4 ns ≡ getD ns 0 0 ∷ getD ns 1 0 ∷ getD ns 2 0 ∷ getD ns 3 0 ∷ []
+pub four : (ns : List ℕ) → 4 ≤ length ns → take 4 ns ≡ getD ns 0 0 ∷ getD ns 1 0 ∷ getD ns 2 0 ∷ getD ns 3 0 ∷ []
 four [] h = absurd (omega arith)
 four (a ∷ []) h = absurd (omega arith)
 four (a ∷ b ∷ []) h = absurd (omega arith)

@@ -150,7 +150,7 @@ module _ (k : Contents) (w : Writable k) where
 
 -- ---- writing what was read
 
-module _ (ys : List ℕ) (small : Bytes ys) (ok : sheetRefusal ys ≡ 0) where
+module _ (ys : List ℕ) (ok : sheetRefusal ys ≡ 0) where
   abbrev U : List Bool
   U = unpacked ys
 
@@ -214,9 +214,9 @@ module _ (ys : List ℕ) (small : Bytes ys) (ok : sheetRefusal ys ≡ 0) where
       zeros-of-number (drop (required ys) U) (ap number (sym a) ∙ p .unfilled) ∙ ap zeros l
 
   -- WRITING WHAT WAS READ
-  pub write-back : sheet (contentsOf ys) ≡ ys
+  pub write-back : Bytes ys → sheet (contentsOf ys) ≡ ys
   unfolding sheet bytesOf filled
-  write-back =
+  write-back small =
       let l : length (take (required ys) U) ≡ required ys = length-take-le (required ys) U enough in
       rw (written, l, ← (p .long), ← filling-is, take-append-drop (required ys) U) (packed-unpacked ys small)
 

@@ -9,3 +9,5 @@ pub mod Refusing
 pub mod Asking
 pub mod Bytewise
 pub mod Whole
+pub mod Trips
+pub mod Told
