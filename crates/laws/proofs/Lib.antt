@@ -14,5 +14,10 @@ pub mod Ends
 pub mod Walk
 pub mod Distances
 pub mod Refusals
-pub mod Table
-pub mod Limits
+pub mod Bits
+pub mod Packing
+pub mod Asks
+pub mod Fields
+pub mod Writable
+pub mod RoundTrip
+pub mod OneAsk

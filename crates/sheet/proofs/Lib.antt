@@ -1,0 +1,13 @@
+-- The laws that the functions' proofs cite.
+pub mod Three
+pub mod Signs
+pub mod Reading
+pub mod Filled
+pub mod Entered
+pub mod Putting
+pub mod Refusing
+pub mod Asking
+pub mod Bytewise
+pub mod Whole
+pub mod Trips
+pub mod Told

@@ -1,0 +1,113 @@
+-- `sheet::ask` meets its contract. Assumes nothing.
+use borrow.Author.Needs.{needs}
+use mathlib.Core.Path.{sym, ap, _∙_}
+use native.Mathlib.Omega.{arith}
+use lib.ListN.{length}
+use Rattle.rules.specs.Outcome.{gives}
+use Rattle.rules.specs.Sheet.{askNumbers, askQuery}
+use Rattle.rules.specs.Refusals.{oneAskRefusal}
+use Rattle.rules.specs.Entries.{Numbers, numbersOf, askAnswer, queryAfter}
+use Rattle.sheet.proofs.Reading.{head-small}
+use Rattle.sheet.proofs.Entered.{answer-refused, answer-given, left-old, left-new, number-small, query-small, query-is, numbers-are, plus-one}
+use Rattle.sheet.proofs.ask.Statement.{statement}
+use Rattle.sheet.proofs.ask.Tie as tie
+use Rattle.sheet.proofs.ask.Reads as reads
+use Rattle.sheet.proofs.ask.Lts as lts
+use Rattle.sheet.proofs.fields.field_at.Reads as field-at-reads
+use Rattle.sheet.proofs.read.bit_count.Reads as bit-count-reads
+use Rattle.sheet.proofs.read.head.Reads as head-reads
+use Rattle.sheet.proofs.read.one_ask_refusal.Reads as one-ask-refusal-reads
+use Rattle.sheet.proofs.read.read_values.Reads as read-values-reads
+use Rattle.sheet.proofs.read.wide.Reads as wide-reads
+
+one-ask-refusal-requires : tie.Need-one-ask-refusal-requires
+one-ask-refusal-requires c κs = search needs
+
+returns : tie.Need-returns
+unfolding askAnswer queryAfter
+returns c = (
+  answer-refused (c .before .one-ask-refusal .result) (oneAskRefusal (c .before .before .before .args .sheet .now) (c .before .before .before .args .number) (length (c .before .before .before .args .query .now))) (c .before .one-ask-refusal .ensures) (c .if1 .taken) (numbersOf (askNumbers (c .before .before .before .args .sheet .now) (c .before .before .before .args .number))),
+  left-old (c .before .one-ask-refusal .result) (oneAskRefusal (c .before .before .before .args .sheet .now) (c .before .before .before .args .number) (length (c .before .before .before .args .query .now))) (c .before .one-ask-refusal .ensures) (c .if1 .taken) (c .before .before .before .args .query .now) (askQuery (c .before .before .before .args .sheet .now) (c .before .before .before .args .number)),
+)
+
+head-requires : tie.Need-head-requires
+head-requires c κs = search needs
+
+wide-requires : tie.Need-wide-requires
+wide-requires c κs = search needs
+
+bit-count-requires : tie.Need-bit-count-requires
+bit-count-requires c κs =
+    let s = head-small (c .before .before .before .before .before .args .sheet .now) (c .before .head .result) (c .before .head .ensures) in
+    (s .0, s .1, s .3, number-small (c .before .before .before .before .before .args .sheet .now) (c .before .head .result) (c .before .head .ensures) (c .before .before .before .before .before .args .number) (c .wide .result) (c .wide .ensures .0) (length (c .before .before .before .before .before .args .query .now)) (c .before .before .before .one-ask-refusal .result) (c .before .before .before .one-ask-refusal .ensures) (c .before .before .if1 .left))
+
+add-read-values : tie.Need-add-read-values
+add-read-values c = search needs
+
+read-values-requires : tie.Need-read-values-requires
+read-values-requires c κs =
+    let s = head-small (c .before .before .before .before .before .before .before .args .sheet .now) (c .before .before .before .head .result) (c .before .before .before .head .ensures) in
+    (s .2, s .3, query-small (c .before .before .before .before .before .before .before .args .sheet .now) (c .before .before .before .head .result) (c .before .before .before .head .ensures) (c .before .before .before .before .before .before .before .args .number) (c .before .before .wide .result) (c .before .before .wide .ensures .0) (length (c .before .before .before .before .before .before .before .args .query .now)) (c .before .before .before .before .before .one-ask-refusal .result) (c .before .before .before .before .before .one-ask-refusal .ensures) (c .before .before .before .before .if1 .left) (c .before .bit-count .result) (c .before .bit-count .ensures .0))
+
+field-at-requires : tie.Need-field-at-requires
+field-at-requires c κs = search needs
+
+add-field-at : tie.Need-add-field-at
+add-field-at c = search needs
+
+field-at-requires-2 : tie.Need-field-at-requires-2
+field-at-requires-2 c κs = search needs
+
+add-t14 : tie.Need-add-t14
+add-t14 c = omega (arith, plus-one (c .before .before .before .before .before .before .before .before .before .before .before .args .sheet .now) (c .before .before .before .before .before .before .before .head .result) (c .before .before .before .before .before .before .before .head .ensures) (c .before .before .before .before .before .before .before .before .before .before .before .args .number) (c .before .before .before .before .before .before .wide .result) (c .before .before .before .before .before .before .wide .ensures .0) (length (c .before .before .before .before .before .before .before .before .before .before .before .args .query .now)) (c .before .before .before .before .before .before .before .before .before .one-ask-refusal .result) (c .before .before .before .before .before .before .before .before .before .one-ask-refusal .ensures) (c .before .before .before .before .before .before .before .before .if1 .left) (c .before .before .before .before .before .bit-count .result) (c .before .before .before .before .before .bit-count .ensures .0) 7 (c .field-at2 .result) (c .field-at2 .ensures))
+
+add-field-at-2 : tie.Need-add-field-at-2
+add-field-at-2 c = search needs
+
+field-at-requires-3 : tie.Need-field-at-requires-3
+field-at-requires-3 c κs = search needs
+
+add-t17 : tie.Need-add-t17
+add-t17 c = omega (arith, plus-one (c .before .before .before .before .before .before .before .before .before .before .before .before .args .sheet .now) (c .before .before .before .before .before .before .before .before .head .result) (c .before .before .before .before .before .before .before .before .head .ensures) (c .before .before .before .before .before .before .before .before .before .before .before .before .args .number) (c .before .before .before .before .before .before .before .wide .result) (c .before .before .before .before .before .before .before .wide .ensures .0) (length (c .before .before .before .before .before .before .before .before .before .before .before .before .args .query .now)) (c .before .before .before .before .before .before .before .before .before .before .one-ask-refusal .result) (c .before .before .before .before .before .before .before .before .before .before .one-ask-refusal .ensures) (c .before .before .before .before .before .before .before .before .before .if1 .left) (c .before .before .before .before .before .before .bit-count .result) (c .before .before .before .before .before .before .bit-count .ensures .0) 14 (c .field-at3 .result) (c .field-at3 .ensures))
+
+add-field-at-3 : tie.Need-add-field-at-3
+add-field-at-3 c = search needs
+
+field-at-requires-4 : tie.Need-field-at-requires-4
+field-at-requires-4 c κs = search needs
+
+same-length : tie.Need-same-length
+same-length c = search needs
+
+returns-2 : tie.Need-returns-2
+unfolding askAnswer queryAfter
+returns-2 c = (
+  ap {A = Numbers} gives
+      (numbers-are (c .before .before .before .before .before .before .before .before .before .before .before .before .before .args .sheet .now) (c .before .before .before .before .before .before .before .before .before .head .result) (c .before .before .before .before .before .before .before .before .before .head .ensures) (c .before .before .before .before .before .before .before .before .before .before .before .before .before .args .number) (c .before .before .before .before .before .before .before .before .wide .result) (c .before .before .before .before .before .before .before .before .wide .ensures .0) (length (c .before .before .before .before .before .before .before .before .before .before .before .before .before .args .query .now)) (c .before .before .before .before .before .before .before .before .before .before .before .one-ask-refusal .result) (c .before .before .before .before .before .before .before .before .before .before .before .one-ask-refusal .ensures) (c .before .before .before .before .before .before .before .before .before .before .if1 .left) (c .before .before .before .before .before .before .before .bit-count .result) (c .before .before .before .before .before .before .before .bit-count .ensures .0) (c .before .before .before .field-at .result) (c .before .before .field-at2 .result) (c .before .field-at3 .result) (c .field-at4 .result)
+      (c .before .before .before .field-at .ensures) (c .before .before .field-at2 .ensures) (c .before .field-at3 .ensures) (c .field-at4 .ensures))
+      ∙ answer-given (c .before .before .before .before .before .before .before .before .before .before .before .one-ask-refusal .result) (oneAskRefusal (c .before .before .before .before .before .before .before .before .before .before .before .before .before .args .sheet .now) (c .before .before .before .before .before .before .before .before .before .before .before .before .before .args .number) (length (c .before .before .before .before .before .before .before .before .before .before .before .before .before .args .query .now))) (c .before .before .before .before .before .before .before .before .before .before .before .one-ask-refusal .ensures) (c .before .before .before .before .before .before .before .before .before .before .if1 .left) (numbersOf (askNumbers (c .before .before .before .before .before .before .before .before .before .before .before .before .before .args .sheet .now) (c .before .before .before .before .before .before .before .before .before .before .before .before .before .args .number))),
+  c .before .before .before .before .before .read-values .ensures ∙ query-is (c .before .before .before .before .before .before .before .before .before .before .before .before .before .args .sheet .now) (c .before .before .before .before .before .before .before .before .before .head .result) (c .before .before .before .before .before .before .before .before .before .head .ensures) (c .before .before .before .before .before .before .before .before .before .before .before .before .before .args .number) (c .before .before .before .before .before .before .before .before .wide .result) (c .before .before .before .before .before .before .before .before .wide .ensures .0) (length (c .before .before .before .before .before .before .before .before .before .before .before .before .before .args .query .now)) (c .before .before .before .before .before .before .before .before .before .before .before .one-ask-refusal .result) (c .before .before .before .before .before .before .before .before .before .before .before .one-ask-refusal .ensures) (c .before .before .before .before .before .before .before .before .before .before .if1 .left) (c .before .before .before .before .before .before .before .bit-count .result) (c .before .before .before .before .before .before .before .bit-count .ensures .0) ∙ left-new (c .before .before .before .before .before .before .before .before .before .before .before .one-ask-refusal .result) (oneAskRefusal (c .before .before .before .before .before .before .before .before .before .before .before .before .before .args .sheet .now) (c .before .before .before .before .before .before .before .before .before .before .before .before .before .args .number) (length (c .before .before .before .before .before .before .before .before .before .before .before .before .before .args .query .now))) (c .before .before .before .before .before .before .before .before .before .before .before .one-ask-refusal .ensures) (c .before .before .before .before .before .before .before .before .before .before .if1 .left) (c .before .before .before .before .before .before .before .before .before .before .before .before .before .args .query .now) (askQuery (c .before .before .before .before .before .before .before .before .before .before .before .before .before .args .sheet .now) (c .before .before .before .before .before .before .before .before .before .before .before .before .before .args .number)),
+)
+
+pub ask-spec : {M : Type 1} → statement M
+ask-spec =
+    tie.close
+    (tie.spec
+    one-ask-refusal-requires
+    returns
+    head-requires
+    wide-requires
+    bit-count-requires
+    add-read-values
+    read-values-requires
+    field-at-requires
+    add-field-at
+    field-at-requires-2
+    add-t14
+    add-field-at-2
+    field-at-requires-3
+    add-t17
+    add-field-at-3
+    field-at-requires-4
+    same-length
+    returns-2)

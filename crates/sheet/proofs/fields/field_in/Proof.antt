@@ -1,0 +1,74 @@
+use borrow.Author.Needs.{needs}
+use mathlib.Core.Path.{_≡_, sym, _∙_}
+use Prim.Native.Nat.{ℕ, _-_, _/_, _%_, _^_}
+use native.Mathlib.Omega.{arith}
+use Rattle.rules.specs.Bits.{Bytes}
+use Rattle.sheet.proofs.Three.{power-some, cut-small, cut-is, field-in-three}
+use Rattle.sheet.proofs.fields.field_in.Statement.{statement}
+use Rattle.sheet.proofs.fields.field_in.Tie as tie
+use Rattle.sheet.proofs.fields.field_in.Reads as reads
+use Rattle.sheet.proofs.fields.field_in.Lts as lts
+use Rattle.sheet.proofs.fields.three_at.Reads as three-at-reads
+
+-- src/fields.rt:57:9
+three-at-requires : tie.Need-three-at-requires
+three-at-requires c κs = search needs
+
+-- src/fields.rt:58:17
+sub-result : tie.Need-sub-result
+sub-result c = search needs
+
+-- src/fields.rt:58:17
+sub-result-2 : tie.Need-sub-result-2
+sub-result-2 c = search needs
+
+-- src/fields.rt:58:17
+cast-result : tie.Need-cast-result
+cast-result c = search needs
+
+-- src/fields.rt:58:7
+shr-result : tie.Need-shr-result
+shr-result c = search needs
+
+-- src/fields.rt:58:44
+cast-result-2 : tie.Need-cast-result-2
+cast-result-2 c = search needs
+
+-- src/fields.rt:58:39
+shl-result : tie.Need-shl-result
+shl-result c = search needs
+
+-- src/fields.rt:58:6
+rem-result : tie.Need-rem-result
+rem-result c = power-some (c .before .before .args .bits) (c .before .before .pre .1)
+
+-- src/fields.rt:58:5
+cast-result-3 : tie.Need-cast-result-3
+cast-result-3 c =
+    let w = c .before .before .args .bits in
+    let x = c .three-at .result / 2 ^ (24 - c .before .before .args .at % 8 - w) in
+    record { fits = cut-small x w (c .before .before .pre .1) }
+
+-- src/fields.rt:51:1
+returns : tie.Need-returns
+unfolding Bytes
+returns c =
+    let a = c .before .before .args in
+    let p = c .before .before .pre in
+    cut-is (c .three-at .result) _ (24 - a .at % 8 - a .bits) (a .bits) (p .1) (c .three-at .ensures)
+    ∙ sym (field-in-three (a .sheet .now) (a .at) (a .bits) (λ i. omega (arith, c .before .shared-slice-known .given i)) (p .0) (p .1) (p .2))
+
+pub field-in-spec : {M : Type 1} → statement M
+field-in-spec =
+    tie.close
+    (tie.spec
+    three-at-requires
+    sub-result
+    sub-result-2
+    cast-result
+    shr-result
+    cast-result-2
+    shl-result
+    rem-result
+    cast-result-3
+    returns)

@@ -1,0 +1,99 @@
+-- `sheet::put::put_part` meets its contract. Assumes nothing.
+use borrow.Author.Needs.{needs}
+use native.Mathlib.Omega.{arith}
+use mathlib.Core.Path.{_≡_, refl, sym, ap, _∙_}
+use Prim.Native.Nat.{ℕ, _/_, _%_, _<_}
+use lib.ListN.{getD, set}
+use Rattle.sheet.proofs.Putting.{power-some, sum-small, byte-small, byte-is, put-part-some}
+use Rattle.sheet.proofs.put.put_part.Statement.{statement}
+use Rattle.sheet.proofs.put.put_part.Tie as tie
+use Rattle.sheet.proofs.put.put_part.Reads as reads
+use Rattle.sheet.proofs.put.put_part.Lts as lts
+
+x-lt : (c : tie.After-slice-known) → getD (c .before .args .out .now) (c .before .args .at / 8) 0 < 256
+x-lt c = omega (arith, c .slice-known .given (c .before .args .at / 8))
+
+slice-read-x : tie.Need-slice-read-x
+slice-read-x c = search needs
+
+cast-x : tie.Need-cast-x
+cast-x c = omega (arith, x-lt c)
+
+sub-kept : tie.Need-sub-kept
+sub-kept c = search needs
+
+cast-kept : tie.Need-cast-kept
+cast-kept c = search needs
+
+shr-kept : tie.Need-shr-kept
+shr-kept c = search needs
+
+cast-kept-2 : tie.Need-cast-kept-2
+cast-kept-2 c = search needs
+
+shl-kept : tie.Need-shl-kept
+shl-kept c = search needs
+
+cast-out : tie.Need-cast-out
+cast-out c = search needs
+
+shl-out : tie.Need-shl-out
+shl-out c = search needs
+
+rem-out : tie.Need-rem-out
+rem-out c = power-some (getD (c .before .args .out .now) (c .before .args .at / 8) 0) (c .before .args .at % 8) (c .before .args .k) (c .before .args .v) (x-lt c) (c .before .pre .0) (c .before .pre .1)
+
+add-out : tie.Need-add-out
+add-out c = omega (arith, sum-small (getD (c .before .args .out .now) (c .before .args .at / 8) 0) (c .before .args .at % 8) (c .before .args .k) (c .before .args .v) (x-lt c) (c .before .pre .0) (c .before .pre .1))
+
+sub-out : tie.Need-sub-out
+sub-out c = search needs
+
+sub-out-2 : tie.Need-sub-out-2
+sub-out-2 c = search needs
+
+cast-out-2 : tie.Need-cast-out-2
+cast-out-2 c = search needs
+
+shl-out-2 : tie.Need-shl-out-2
+shl-out-2 c = search needs
+
+cast-out-3 : tie.Need-cast-out-3
+cast-out-3 c = record { fits = byte-small (getD (c .before .args .out .now) (c .before .args .at / 8) 0) (c .before .args .at % 8) (c .before .args .k) (c .before .args .v) (x-lt c) (c .before .pre .0) (c .before .pre .1) }
+
+slice-write-out : tie.Need-slice-write-out
+slice-write-out c = search needs
+
+same-length : tie.Need-same-length
+same-length c = search needs
+
+returns : tie.Need-returns
+returns c =
+    let a = c .before .args in
+    let j = a .at / 8 in
+    ap (λ (y : ℕ). set (a .out .now) j y) (byte-is (getD (c .before .args .out .now) (c .before .args .at / 8) 0) (c .before .args .at % 8) (c .before .args .k) (c .before .args .v) (x-lt c) (c .before .pre .0) (c .before .pre .1))
+    ∙ sym (put-part-some (a .out .now) (a .at) (a .k) (a .v) (c .before .pre .0) (c .before .pre .1) (c .before .pre .2))
+
+pub put-part-spec : {M : Type 1} → statement M
+put-part-spec =
+    tie.close
+    (tie.spec
+    slice-read-x
+    cast-x
+    sub-kept
+    cast-kept
+    shr-kept
+    cast-kept-2
+    shl-kept
+    cast-out
+    shl-out
+    rem-out
+    add-out
+    sub-out
+    sub-out-2
+    cast-out-2
+    shl-out-2
+    cast-out-3
+    slice-write-out
+    same-length
+    returns)

@@ -1,0 +1,47 @@
+-- `sheet::read::bit_count` meets its contract. Assumes nothing.
+use native.Mathlib.Omega.{arith}
+use mathlib.Core.Path.{refl}
+use Rattle.rules.specs.Sheet.{bitCount}
+use Rattle.laws.proofs.Writable.{few-products, few-bits}
+use Rattle.sheet.proofs.read.bit_count.Statement.{statement}
+use Rattle.sheet.proofs.read.bit_count.Tie as tie
+use Rattle.sheet.proofs.read.bit_count.Reads as reads
+use Rattle.sheet.proofs.read.bit_count.Lts as lts
+
+mul-result : tie.Need-mul-result
+mul-result c = omega (arith, few-products (c .args .n) (c .args .d) (c .args .c) (c .args .asks) (c .pre .0) (c .pre .1) (c .pre .2) (c .pre .3))
+
+mul-result-2 : tie.Need-mul-result-2
+mul-result-2 c = omega (arith, few-products (c .args .n) (c .args .d) (c .args .c) (c .args .asks) (c .pre .0) (c .pre .1) (c .pre .2) (c .pre .3))
+
+mul-result-3 : tie.Need-mul-result-3
+mul-result-3 c = omega (arith, few-products (c .args .n) (c .args .d) (c .args .c) (c .args .asks) (c .pre .0) (c .pre .1) (c .pre .2) (c .pre .3))
+
+add-result : tie.Need-add-result
+add-result c = omega (arith, few-products (c .args .n) (c .args .d) (c .args .c) (c .args .asks) (c .pre .0) (c .pre .1) (c .pre .2) (c .pre .3))
+
+mul-result-4 : tie.Need-mul-result-4
+mul-result-4 c = omega (arith, few-products (c .args .n) (c .args .d) (c .args .c) (c .args .asks) (c .pre .0) (c .pre .1) (c .pre .2) (c .pre .3))
+
+add-result-2 : tie.Need-add-result-2
+add-result-2 c = omega (arith, few-products (c .args .n) (c .args .d) (c .args .c) (c .args .asks) (c .pre .0) (c .pre .1) (c .pre .2) (c .pre .3))
+
+add-result-3 : tie.Need-add-result-3
+add-result-3 c = omega (arith, few-products (c .args .n) (c .args .d) (c .args .c) (c .args .asks) (c .pre .0) (c .pre .1) (c .pre .2) (c .pre .3))
+
+returns : tie.Need-returns
+unfolding bitCount
+returns c = (refl, few-bits (c .args .n) (c .args .d) (c .args .c) (c .args .asks) (c .pre .0) (c .pre .1) (c .pre .2) (c .pre .3))
+
+pub bit-count-spec : {M : Type 1} → statement M
+bit-count-spec =
+    tie.close
+    (tie.spec
+    mul-result
+    mul-result-2
+    mul-result-3
+    add-result
+    mul-result-4
+    add-result-2
+    add-result-3
+    returns)

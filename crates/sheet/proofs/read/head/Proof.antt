@@ -1,0 +1,82 @@
+use borrow.Author.Needs.{needs}
+use mathlib.Core.Path.{_≡_, _∙_}
+use Prim.Native.Nat.{ℕ, _+_}
+use Rattle.rules.specs.Sheet.{points, coords, width, askCount}
+use Rattle.sheet.proofs.read.head.Statement.{statement}
+use Rattle.sheet.proofs.read.head.Tie as tie
+use Rattle.sheet.proofs.read.head.Reads as reads
+use Rattle.sheet.proofs.read.head.Lts as lts
+use Rattle.sheet.proofs.fields.field_at.Reads as field-at-reads
+use Rattle.sheet.proofs.read.wide.Reads as wide-reads
+
+-- src/read.rt:24:17
+field-at-requires : tie.Need-field-at-requires
+field-at-requires c κs = search needs
+
+-- src/read.rt:24:12
+wide-requires : tie.Need-wide-requires
+wide-requires c κs = search needs
+
+-- src/read.rt:24:12
+add-t4 : tie.Need-add-t4
+add-t4 c = search needs
+
+-- src/read.rt:25:17
+field-at-requires-2 : tie.Need-field-at-requires-2
+field-at-requires-2 c κs = search needs
+
+-- src/read.rt:25:12
+wide-requires-2 : tie.Need-wide-requires-2
+wide-requires-2 c κs = search needs
+
+-- src/read.rt:25:12
+add-t7 : tie.Need-add-t7
+add-t7 c = search needs
+
+-- src/read.rt:26:17
+field-at-requires-3 : tie.Need-field-at-requires-3
+field-at-requires-3 c κs = search needs
+
+-- src/read.rt:26:12
+wide-requires-3 : tie.Need-wide-requires-3
+wide-requires-3 c κs = search needs
+
+-- src/read.rt:26:12
+add-t10 : tie.Need-add-t10
+add-t10 c = search needs
+
+-- src/read.rt:27:20
+field-at-requires-4 : tie.Need-field-at-requires-4
+field-at-requires-4 c κs = search needs
+
+-- src/read.rt:27:15
+wide-requires-4 : tie.Need-wide-requires-4
+wide-requires-4 c κs = search needs
+
+-- src/read.rt:20:1
+returns : tie.Need-returns
+unfolding points coords width askCount
+returns c =
+    let p = c .before .before .before .before .before .before in
+    let e₁ = p .wide .ensures .0 ∙ p .before .field-at .ensures in
+    let e₂ = c .before .before .before .before .wide2 .ensures .0 ∙ c .before .before .before .before .before .field-at2 .ensures in
+    let e₃ = c .before .before .wide3 .ensures .0 ∙ c .before .before .before .field-at3 .ensures in
+    let e₄ = c .wide4 .ensures .0 ∙ c .before .field-at4 .ensures in
+    λ i. record { n = e₁ i + 1; d = e₂ i + 1; c = e₃ i + 1; asks = e₄ i }
+
+pub head-spec : {M : Type 1} → statement M
+head-spec =
+    tie.close
+    (tie.spec
+    field-at-requires
+    wide-requires
+    add-t4
+    field-at-requires-2
+    wide-requires-2
+    add-t7
+    field-at-requires-3
+    wide-requires-3
+    add-t10
+    field-at-requires-4
+    wide-requires-4
+    returns)

@@ -1,0 +1,78 @@
+-- `sheet::read::read_values` meets its contract. The invariant: what is read and what is left make the whole. Assumes nothing.
+use native.Mathlib.Omega.{arith}
+use mathlib.Core.Path.{_≡_, refl, sym, _∙_}
+use Prim.Native.Nat.{_+_, _*_, _-_, _≤_}
+use lib.ListN.{length, length-set}
+use borrow.Author.Needs.{needs}
+use Rattle.sheet.proofs.Filled.{reading, reading-all, reading-none, read-small, reading-more, next-small}
+use Rattle.sheet.proofs.read.read_values.Statement.{statement}
+use Rattle.sheet.proofs.read.read_values.Tie as tie
+use Rattle.sheet.proofs.read.read_values.Reads as reads
+use Rattle.sheet.proofs.read.read_values.Lts as lts
+use Rattle.sheet.proofs.fields.field_at.Reads as field-at-reads
+use Rattle.sheet.proofs.values.signed_value.Reads as signed-value-reads
+
+abbrev Inv-loop : tie.InvT-loop
+Inv-loop sheet at c buffer₀ i₀ p₀ buffer i p =
+    (i ≤ length buffer) × (length buffer ≡ length buffer₀) × (p ≡ at + i * c) × (reading sheet c buffer i p ≡ reading sheet c buffer₀ 0 at)
+
+abbrev μ-loop : tie.MeasureT-loop
+μ-loop sheet at c buffer₀ i₀ p₀ buffer i p = length buffer - i
+
+loop-holds : tie.Need-loop-holds Inv-loop μ-loop
+loop-holds c = (omega arith, refl, omega arith, refl)
+
+field-at-requires : tie.Need-field-at-requires Inv-loop μ-loop
+field-at-requires c κs = search needs
+
+signed-value-requires : tie.Need-signed-value-requires Inv-loop μ-loop
+signed-value-requires c κs = (c .before .before .before .before .pre .0, c .before .before .before .before .pre .1, read-small (c .before .before .before .before .args .sheet .now) (c .before .before .before .before .args .c) (c .before .before .loop .buffer) (c .before .before .loop .i) (c .before .before .loop .p) (c .before .loop-test .taken) (c .before .before .before .before .pre .1) (c .field-at .result) (c .field-at .ensures))
+
+slice-set-from-buffer : tie.Need-slice-set-from-buffer Inv-loop μ-loop
+slice-set-from-buffer c = omega arith
+
+add-p : tie.Need-add-p Inv-loop μ-loop
+add-p c =
+    let a = c .before .before .before .before .before .args in
+    let l = c .before .before .before .loop in
+    let h = next-small (a .at) (a .c) (l .i) (length (l .buffer)) (length (a .buffer .now)) (l .p) (l .inv .2) (c .before .before .loop-test .taken) (l .inv .1) (c .before .before .before .before .before .pre .2) in
+    omega arith
+
+add-i : tie.Need-add-i Inv-loop μ-loop
+add-i c = omega arith
+
+loop-less : tie.Need-loop-less Inv-loop μ-loop
+loop-less c = simp length-set (omega arith)
+
+loop-again : tie.Need-loop-again Inv-loop μ-loop
+loop-again c =
+    let f = c .signed-value in (
+      simp length-set (omega arith),
+      simp length-set (omega arith),
+      omega arith,
+      reading-more (c .before .before .before .before .before .args .sheet .now) (c .before .before .before .before .before .args .c) (c .before .before .before .loop .buffer) (c .before .before .before .loop .i) (c .before .before .before .loop .p) (c .before .before .loop-test .taken) (c .before .before .before .before .before .pre .1) (c .before .field-at .result) (c .before .field-at .ensures) (f .result) (f .ensures) (record { sfits = f .ok }) ∙ c .before .before .before .loop .inv .3,
+    )
+
+same-length : tie.Need-same-length Inv-loop μ-loop
+same-length c = omega arith
+
+returns : tie.Need-returns Inv-loop μ-loop
+returns c =
+    sym (reading-none (c .before .before .before .args .sheet .now) (c .before .before .before .args .c) (c .before .loop .buffer) (c .before .loop .i) (c .before .loop .p) (c .loop-test .left)) ∙ c .before .loop .inv .3 ∙ reading-all (c .before .before .before .args .sheet .now) (c .before .before .before .args .c) (c .before .before .before .args .buffer .now) (c .before .before .before .args .at)
+
+pub read-values-spec : {M : Type 1} → statement M
+read-values-spec =
+    tie.close
+    (tie.spec
+    Inv-loop
+    μ-loop
+    loop-holds
+    field-at-requires
+    signed-value-requires
+    slice-set-from-buffer
+    add-p
+    add-i
+    loop-less
+    loop-again
+    same-length
+    returns)

@@ -1,0 +1,4 @@
+-- What the contracts of `sheet` cite besides the definitions of `rules`.
+pub mod Answers
+pub mod Put
+pub mod AsRead
