@@ -12,5 +12,6 @@ pub mod Whole
 pub mod Demand3
 pub mod Ends
 pub mod Walk
+pub mod Walking
 pub mod Distances
 pub mod Refusals

@@ -1,0 +1,3 @@
+-- What the entries of the walk answer, and what their code speaks of on its way.
+pub mod Answers
+pub mod Keys
