@@ -19,8 +19,8 @@ use Rattle.rules.specs.Refusals.{walkRefusal, stepRefusal}
 use Rattle.rules.specs.Walk.{Walk, Step, moved, atEnd, due, stepped, stepFrom}
 use Rattle.rules.specs.Entries.{goesTo, stepRefused, stepAnswer, recordAfter}
 use Rattle.laws.proofs.Refusals.{else-none, else-some, outcome-gives, outcome-refused, after-new, after-old}
-use Rattle.walk.specs.Keys.{least}
-use Rattle.walk.proofs.Keys.{key-stays, key-moves}
+use Rattle.walk.specs.Least.{least}
+use Rattle.walk.proofs.Least.{key-stays, key-moves}
 
 -- ---- where a step from u moves to, by the key that is found
 

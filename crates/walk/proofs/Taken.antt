@@ -1,5 +1,5 @@
--- What is known where a walk or a step is not refused. Assumes nothing.
-use Prim.Native.Nat.{ℕ, _*_, _≤_, _<_}
+-- A walk that is not refused is taken. Assumes nothing.
+use Prim.Native.Nat.{ℕ, _*_}
 use mathlib.Core.Path.{_≡_, sym, _∙_}
 use mathlib.Core.List.{List}
 use lib.Dec.{leb}
@@ -8,12 +8,7 @@ use lib.ListN.{length}
 use borrow.Author.Tests.{leb-false}
 use Rattle.rules.specs.Refusals.{differ, setRefusal, walkRefusal}
 use Rattle.laws.proofs.Refusals.{walk-order, else-both, skipped, alike, set-ok}
-use Rattle.walk.specs.Keys.{Askable}
-
-pub record Taken (n d : ℕ) (vectors : List ℤ) (table : List ℕ) (query : List ℤ) (id : ℕ) : Type 0 where
-  pub set : Askable n d vectors query
-  pub whole : length table ≡ n * n
-  pub within : id < n
+use Rattle.walk.specs.Taken.{Askable, Taken}
 
 pub taken : (n d : ℕ) (vectors : List ℤ) (table : List ℕ) (query : List ℤ) (id threshold : ℕ) → walkRefusal n d (length vectors) (length table) (length query) id threshold ≡ 0 → Taken n d vectors table query id
 taken n d vectors table query id threshold e =

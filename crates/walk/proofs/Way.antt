@@ -13,7 +13,7 @@ use Rattle.rules.specs.Walk.{Walk, stepTo}
 use Rattle.rules.specs.Entries.{End, goesTo, ending, endOf}
 use Rattle.laws.proofs.Walking.{Passes, passes-start, passes-move, passes-end, passes-short}
 use Rattle.walk.specs.Answers.{at}
-use Rattle.walk.specs.Keys.{least}
+use Rattle.walk.specs.Least.{least}
 use Rattle.walk.proofs.Steps.{goes-nowhere, goes-there}
 
 module _ (n d : ℕ) (vectors : List ℤ) (table : List ℕ) (query : List ℤ) (threshold start : ℕ) where

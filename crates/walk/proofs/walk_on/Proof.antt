@@ -22,20 +22,26 @@ next-key-requires c κs = search needs
 loop-holds : tie.Need-loop-holds Inv-loop μ-loop
 loop-holds c =
     let f = c .before .from-query .ensures in
-    record { passes = passes-start _ _ _ _ (c .before .before .before .pre .1 .1); far = f .0; bounded = f .1; next = c .next-key .ensures }
+    record { passes = passes-start _ _ _ _ (c .before .before .before .pre .within); far = f .0; bounded = f .1; next = c .next-key .ensures }
 
 cast-last : tie.Need-cast-last Inv-loop μ-loop
 cast-last c = omega arith
 
 add-moves : tie.Need-add-moves Inv-loop μ-loop
 add-moves c =
-    let few = c .before .before .before .before .before .pre .0 .few in
+    let few = c .before .before .before .before .before .pre .set .few in
     omega (arith, few, way-spare _ _ _ _ _ _ _ (c .before .loop .inv) few (c .loop-test .taken))
 
 next-key-requires-2 : tie.Need-next-key-requires-2 Inv-loop μ-loop
 next-key-requires-2 c κs =
-    let s = c .before .before .before .before .before .pre in
-    (s .0, (s .1 .0, (way-passes _ _ _ _ _ _ _ (c .before .loop .inv) (s .0 .few) (c .loop-test .taken) .within, omega arith)))
+    let s = c .before .before .before .before .before .pre in (
+      record {
+        set = s .set;
+        whole = s .whole;
+        within = way-passes _ _ _ _ _ _ _ (c .before .loop .inv) (s .set .few) (c .loop-test .taken) .within;
+      },
+      omega arith,
+    )
 
 loop-less : tie.Need-loop-less Inv-loop μ-loop
 loop-less c = omega arith
@@ -43,7 +49,7 @@ loop-less c = omega arith
 loop-again : tie.Need-loop-again Inv-loop μ-loop
 loop-again c =
     let t = c .before in
-    let few = t .before .before .before .before .before .pre .0 .few in
+    let few = t .before .before .before .before .before .pre .set .few in
     record {
       passes = way-passes _ _ _ _ _ _ _ (t .before .loop .inv) few (t .loop-test .taken);
       far = way-far _ _ _ _ _ _ _ (t .before .loop .inv) few (t .loop-test .taken);
@@ -51,12 +57,12 @@ loop-again c =
       next = c .next-key2 .ensures;
     }
 
-cast-t14 : tie.Need-cast-t14 Inv-loop μ-loop
-cast-t14 c = omega (arith, c .before .loop .inv .passes .within, c .before .before .before .before .before .pre .0 .few)
+cast-id : tie.Need-cast-id Inv-loop μ-loop
+cast-id c = omega (arith, c .before .loop .inv .passes .within, c .before .before .before .before .before .pre .set .few)
 
 returns : tie.Need-returns Inv-loop μ-loop
 returns c =
-    way-ends _ _ _ _ _ _ _ (c .before .loop .inv) (c .before .before .before .before .before .pre .0 .few) (c .loop-test .left)
+    way-ends _ _ _ _ _ _ _ (c .before .loop .inv) (c .before .before .before .before .before .pre .set .few) (c .loop-test .left)
 
 pub walk-on-spec : {M : Type 1} → statement M
 walk-on-spec =
@@ -72,5 +78,5 @@ walk-on-spec =
     next-key-requires-2
     loop-less
     loop-again
-    cast-t14
+    cast-id
     returns)

@@ -1,16 +1,17 @@
 -- `walk::walk_refusal` meets its contract: the set's refusals first, then the others in their order. Assumes nothing.
-use Prim.Native.Nat.{_≤_}
 use mathlib.Core.Path.{_≡_, sym, _∙_}
 use native.Mathlib.Omega.{arith}
 use borrow.Author.Needs.{needs}
 use borrow.Author.Tests.{le-leb, lt-leb, lt-ltb, le-ltb, eq-eqb, ne-eqb}
+use denote.Ref.{now}
+use lib.ListN.{length}
 use Rattle.rules.specs.Refusals.{setRefusal}
 use Rattle.laws.proofs.Refusals.{walk-order, else-none, else-some, set-ok, small-square}
 use Rattle.walk.proofs.walk_refusal.Statement.{statement}
 use Rattle.walk.proofs.walk_refusal.Tie as tie
 
 -- the set is not refused where the table is looked at
-set-taken : (c : tie.Else1) → setRefusal (c .before .before .args .n) (c .before .before .args .d) (c .before .before .args .vectors) ≡ 0
+set-taken : (c : tie.Else1) → let a = c .before .before .before .args in setRefusal (a .n) (a .d) (length (now (a .vectors))) ≡ 0
 set-taken c = sym (c .before .set-refusal .ensures) ∙ c .if1 .left
 
 set-refusal-requires : tie.Need-set-refusal-requires
@@ -23,7 +24,7 @@ returns c =
 
 mul-if2 : tie.Need-mul-if2
 mul-if2 c =
-    let n = c .before .before .args .n in
+    let n = c .before .before .before .args .n in
     record { fits = omega (arith, small-square n (set-ok n _ _ (set-taken c) .few-points)) }
 
 returns-2 : tie.Need-returns-2

@@ -7,7 +7,8 @@ use Rattle.rules.specs.Outcome.{gives}
 use Rattle.rules.specs.Refusals.{walkRefusal}
 use Rattle.rules.specs.Entries.{walkAnswer}
 use Rattle.laws.proofs.Refusals.{outcome-gives, outcome-refused}
-use Rattle.walk.proofs.Taken.{Taken, taken}
+use Rattle.walk.specs.Taken.{Taken}
+use Rattle.walk.proofs.Taken.{taken}
 use Rattle.walk.proofs.whole_walk.Statement.{statement}
 use Rattle.walk.proofs.whole_walk.Tie as tie
 
@@ -25,7 +26,7 @@ unfolding walkAnswer
 returns c = rw (sym (c .before .walk-refusal .ensures)) (sym (outcome-refused (c .if1 .taken) _))
 
 walk-on-requires : tie.Need-walk-on-requires
-walk-on-requires c κs = (known c .set, (known c .whole, known c .within))
+walk-on-requires c κs = known c
 
 returns-2 : tie.Need-returns-2
 unfolding walkAnswer

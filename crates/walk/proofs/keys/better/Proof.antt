@@ -1,4 +1,4 @@
--- `walk::better` meets its contract: each return is a case of whether there is an edge. Assumes nothing.
+-- `walk::keys::better` meets its contract: each return is a case of whether there is an edge. Assumes nothing.
 use Prim.Native.Nat.{_+_, _*_, _≤_, _<_}
 use mathlib.Core.Path.{_≡_, sym, _∙_}
 use native.Mathlib.Omega.{arith}
@@ -6,20 +6,20 @@ use borrow.Author.Needs.{needs}
 use denote.Ref.{now}
 use lib.ListN.{length}
 use Rattle.laws.proofs.Refusals.{small-square}
-use Rattle.walk.proofs.Keys.{cell-in, no-edge-self, no-edge-above, edge-there, without-edge, with-smaller, with-larger}
-use Rattle.walk.proofs.better.Statement.{statement}
-use Rattle.walk.proofs.better.Tie as tie
-use Rattle.walk.proofs.better.Reads as reads
-use Rattle.walk.proofs.better.Lts as lts
+use Rattle.walk.proofs.Least.{cell-in, no-edge-self, no-edge-above, edge-there, without-edge, with-smaller, with-larger}
+use Rattle.walk.proofs.keys.better.Statement.{statement}
+use Rattle.walk.proofs.keys.better.Tie as tie
+use Rattle.walk.proofs.keys.better.Reads as reads
+use Rattle.walk.proofs.keys.better.Lts as lts
 
 -- the cell that is looked at
 inside : (c : tie.Else1) → c .before .before .args .current * c .before .before .args .n + c .before .before .args .id < c .before .before .args .n * c .before .before .args .n
 inside c =
     let s = c .before .before in
-    cell-in (s .args .n) (s .args .current) (s .args .id) (s .pre .1 .1 .0) (s .pre .1 .1 .1)
+    cell-in (s .args .n) (s .args .current) (s .args .id) (s .pre .0 .within) (s .pre .1)
 
 few-cells : (c : tie.Else1) → c .before .before .args .n * c .before .before .args .n ≤ 16384
-few-cells c = let s = c .before .before in small-square (s .args .n) (s .pre .0 .few)
+few-cells c = let s = c .before .before in small-square (s .args .n) (s .pre .0 .set .few)
 
 returns : tie.Need-returns
 returns c = without-edge _ _ (no-edge-self _ _ _ _ _ (c .if1 .taken))

@@ -1,9 +1,9 @@
--- `walk::from_query` meets its contract: what is measured is D. Assumes nothing.
+-- `walk::keys::from_query` meets its contract: what is measured is D. Assumes nothing.
 use mathlib.Core.Path.{_∙_}
 use borrow.Author.Needs.{needs}
 use Rattle.space.proofs.Measured.{measured}
-use Rattle.walk.proofs.from_query.Statement.{statement}
-use Rattle.walk.proofs.from_query.Tie as tie
+use Rattle.walk.proofs.keys.from_query.Statement.{statement}
+use Rattle.walk.proofs.keys.from_query.Tie as tie
 
 measure-requires : tie.Need-measure-requires
 measure-requires c κs = search needs

@@ -1,10 +1,10 @@
--- `walk::key_of` meets its contract. Assumes nothing.
+-- `walk::keys::key_of` meets its contract. Assumes nothing.
 use Prim.Native.Nat.{ℕ, _+_, _*_}
 use mathlib.Core.Path.{ap}
 use borrow.Author.Needs.{needs}
 use Rattle.rules.specs.Order.{keyed}
-use Rattle.walk.proofs.key_of.Statement.{statement}
-use Rattle.walk.proofs.key_of.Tie as tie
+use Rattle.walk.proofs.keys.key_of.Statement.{statement}
+use Rattle.walk.proofs.keys.key_of.Tie as tie
 
 from-query-requires : tie.Need-from-query-requires
 from-query-requires c κs = search needs

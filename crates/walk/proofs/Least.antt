@@ -15,7 +15,7 @@ use Rattle.rules.specs.Order.{pick, first, keyed}
 use Rattle.rules.specs.Labels.{edgeIn}
 use Rattle.rules.specs.Walk.{stepTo}
 use Rattle.laws.proofs.Order.{first-some, first-cases}
-use Rattle.walk.specs.Keys.{least}
+use Rattle.walk.specs.Least.{least}
 
 -- ---- an edge of the table
 

@@ -1,4 +1,4 @@
--- `walk::next_key` meets its contract. The loop keeps the least key of the ids passed; the measure is what is left of them. Assumes nothing.
+-- `walk::keys::next_key` meets its contract. The loop keeps the least key of the ids passed; the measure is what is left of them. Assumes nothing.
 use Prim.Native.Nat.{_-_, _*_, _≤_}
 use mathlib.Core.Path.{_≡_, sym, _∙_}
 use native.Mathlib.Omega.{arith}
@@ -6,10 +6,10 @@ use borrow.Author.Needs.{needs}
 use Rattle.rules.specs.Points.{away}
 use Rattle.rules.specs.Order.{keyed}
 use Rattle.rules.specs.Labels.{edgeIn}
-use Rattle.walk.specs.Keys.{least}
-use Rattle.walk.proofs.Keys.{least-none-yet, least-more}
-use Rattle.walk.proofs.next_key.Statement.{statement}
-use Rattle.walk.proofs.next_key.Tie as tie
+use Rattle.walk.specs.Least.{least}
+use Rattle.walk.proofs.Least.{least-none-yet, least-more}
+use Rattle.walk.proofs.keys.next_key.Statement.{statement}
+use Rattle.walk.proofs.keys.next_key.Tie as tie
 
 abbrev Inv-loop : tie.InvT-loop
 Inv-loop n d vectors table query threshold current distance best₀ id₀ best id =
