@@ -3,15 +3,14 @@ use Prim.Native.Nat.{ℕ, _+_, _*_, _/_, _%_, _≤_, _<_}
 use native.Mathlib.Nat.{lt-irrefl}
 use native.Mathlib.Numerals.{add-one}
 use native.Mathlib.Omega.{arith}
-use mathlib.Core.Path.{_≡_, refl, sym, ap, _∙_}
+use mathlib.Core.Path.{_≡_, sym, ap, _∙_}
 use mathlib.Core.Logic.{_≢_}
 use mathlib.Core.Option.{Option, none, some}
 use mathlib.Core.List.{List}
-use lib.Dec.{leb}
 use lib.IntN.{ℤ}
 use lib.ListN.{length}
 use borrow.Author.Tests.{le-leb, lt-leb}
-use Rattle.rules.specs.Outcome.{Outcome, refused, gives, outcome, after}
+use Rattle.rules.specs.Outcome.{Outcome, refused, gives}
 use Rattle.rules.specs.Points.{away}
 use Rattle.rules.specs.Order.{keyed}
 use Rattle.rules.specs.Labels.{edgeIn}
@@ -66,14 +65,26 @@ module _ (n d : ℕ) (vectors : List ℤ) (table : List ℕ) (query : List ℤ) 
   unfolding stepRefused stepRefusal
   step-refused r d e = refuses r d (else-some (λ z. d (e ∙ z)) _ ∙ sym e)
 
+  -- the number where the walk is not refused, by where the step goes
+  pub number-end : refusal ≡ 0 → to ≡ none → number ≡ 0
+  unfolding stepRefused stepRefusal due
+  number-end z e = else-none z _ ∙ rw e
+
+  number-full : refusal ≡ 0 → (x : ℕ) → to ≡ some x → 127 ≤ w .moves → number ≡ 18
+  unfolding stepRefused stepRefusal due
+  number-full z x e l = else-none z _ ∙ rw (e, le-leb 127 (w .moves) l)
+
+  pub number-move : refusal ≡ 0 → (x : ℕ) → to ≡ some x → w .moves < 127 → number ≡ 0
+  unfolding stepRefused stepRefusal due
+  number-move z x e l = else-none z _ ∙ rw (e, lt-leb 127 (w .moves) l)
+
   pub step-ends : refusal ≡ 0 → to ≡ none → Steps (gives atEnd) w
-  unfolding stepRefused stepRefusal due stepped stepFrom
-  step-ends z e = rw e at (takes (else-none z _ ∙ rw e))
+  unfolding stepped stepFrom
+  step-ends z e = rw e at (takes (number-end z e))
 
   pub step-full : refusal ≡ 0 → (x : ℕ) → to ≡ some x → 127 ≤ w .moves → Steps (refused 18) w
-  unfolding stepRefused stepRefusal due
-  step-full z x e l = refuses 18 (λ q. lt-irrefl 0 (omega arith)) (else-none z _ ∙ rw (e, le-leb 127 (w .moves) l))
+  step-full z x e l = refuses 18 (λ q. lt-irrefl 0 (omega arith)) (number-full z x e l)
 
   pub step-moves : refusal ≡ 0 → (x : ℕ) → to ≡ some x → w .moves < 127 → Steps (gives moved) (record { current = x; moves = w .moves + 1 })
-  unfolding stepRefused stepRefusal due stepped stepFrom
-  step-moves z x e l = rw add-one (rw e at (takes (else-none z _ ∙ rw (e, lt-leb 127 (w .moves) l))))
+  unfolding stepped stepFrom
+  step-moves z x e l = rw add-one (rw e at (takes (number-move z x e l)))

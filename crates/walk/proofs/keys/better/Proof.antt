@@ -1,10 +1,7 @@
 -- `walk::keys::better` meets its contract: each return is a case of whether there is an edge. Assumes nothing.
 use Prim.Native.Nat.{_+_, _*_, _≤_, _<_}
-use mathlib.Core.Path.{_≡_, sym, _∙_}
 use native.Mathlib.Omega.{arith}
 use borrow.Author.Needs.{needs}
-use denote.Ref.{now}
-use lib.ListN.{length}
 use Rattle.laws.proofs.Refusals.{small-square}
 use Rattle.walk.proofs.Least.{cell-in, no-edge-self, no-edge-above, edge-there, without-edge, with-smaller, with-larger}
 use Rattle.walk.proofs.keys.better.Statement.{statement}
