@@ -12,6 +12,7 @@ pub mod Whole
 pub mod Demand3
 pub mod Ends
 pub mod Walk
+pub mod Walking
 pub mod Distances
 pub mod Refusals
 pub mod Bits

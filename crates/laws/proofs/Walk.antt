@@ -18,7 +18,7 @@ use Rattle.laws.proofs.Order.{first-none, first-some, first-cases}
 module _ (n : ℕ) (D : ℕ → ℕ) (edge : ℕ → ℕ → Bool) where
   -- ---- one step
 
-  step-cases : (u : ℕ) → (stepTo n D edge u ≡ none) ⊎ ((x : ℕ) × (stepTo n D edge u ≡ some x))
+  pub step-cases : (u : ℕ) → (stepTo n D edge u ≡ none) ⊎ ((x : ℕ) × (stepTo n D edge u ≡ some x))
   step-cases u = go (stepTo n D edge u) refl
     where
       go : (r : Option ℕ) → stepTo n D edge u ≡ r → (stepTo n D edge u ≡ none) ⊎ ((x : ℕ) × (stepTo n D edge u ≡ some x))
@@ -26,7 +26,7 @@ module _ (n : ℕ) (D : ℕ → ℕ) (edge : ℕ → ℕ → Bool) where
       go (some x) e = inr (x, e)
 
   -- a step moves to an id that is strictly nearer
-  step-nearer : (u x : ℕ) → stepTo n D edge u ≡ some x → (x < n) × (D x < D u)
+  pub step-nearer : (u x : ℕ) → stepTo n D edge u ≡ some x → (x < n) × (D x < D u)
   unfolding stepTo
   step-nearer u x e = go (first (keyed D) n (edge u)) refl e
     where
@@ -59,20 +59,20 @@ module _ (n : ℕ) (D : ℕ → ℕ) (edge : ℕ → ℕ → Bool) where
 
   -- ---- the whole walk
 
-  walk-stays : (f : ℕ) (w : Walk) → stepTo n D edge (w .current) ≡ none → walk n D edge f w ≡ w
+  pub walk-stays : (f : ℕ) (w : Walk) → stepTo n D edge (w .current) ≡ none → walk n D edge f w ≡ w
   unfolding walk
   walk-stays zero w e = refl
   walk-stays (suc f) w e = rw (e, walk)
 
-  walk-moves : (f : ℕ) (w : Walk) (x : ℕ) → stepTo n D edge (w .current) ≡ some x → walk n D edge (suc f) w ≡ walk n D edge f (record { current = x; moves = suc (w .moves) })
+  pub walk-moves : (f : ℕ) (w : Walk) (x : ℕ) → stepTo n D edge (w .current) ≡ some x → walk n D edge (suc f) w ≡ walk n D edge f (record { current = x; moves = suc (w .moves) })
   unfolding walk stepFrom
   walk-moves f w x e = rw (e, walk)
 
   -- how many ids are strictly nearer than u
-  nearer : ℕ → ℕ
+  pub nearer : ℕ → ℕ
   nearer u = count n (λ y. ltb (D y) (D u))
 
-  nearer-less : (u x : ℕ) → x < n → D x < D u → nearer x < nearer u
+  pub nearer-less : (u x : ℕ) → x < n → D x < D u → nearer x < nearer u
   unfolding nearer
   nearer-less u x l h =
       count-less
@@ -85,7 +85,7 @@ module _ (n : ℕ) (D : ℕ → ℕ) (edge : ℕ → ℕ → Bool) where
       (le-ltb (D x) (D x) (le-refl (D x)))
       (lt-ltb (D x) (D u) h)
 
-  nearer-lt : (u : ℕ) → u < n → nearer u < n
+  pub nearer-lt : (u : ℕ) → u < n → nearer u < n
   unfolding nearer
   nearer-lt u l = count-lt n (λ y. ltb (D y) (D u)) u l (le-ltb (D u) (D u) (le-refl (D u)))
 
