@@ -15,6 +15,8 @@ pub mod Walk
 pub mod Walking
 pub mod Distances
 pub mod Refusals
+pub mod Table
+pub mod Limits
 pub mod Bits
 pub mod Packing
 pub mod Asks
