@@ -95,16 +95,15 @@ fn unrefused_step(
     requires { ⌜ walkRefusal n d (length (now vectors)) (length (now table)) (length (now query)) current threshold ≡ 0 ⌝ }
     ensures { λ r. ⌜ (told (r .answer) ≡ stepAnswer n d (now (vectors .entry)) (now (table .entry)) (now (query .entry)) threshold (at current moves)) × (recordIn r ≡ recordAfter n d (now (vectors .entry)) (now (table .entry)) (now (query .entry)) threshold (at current moves)) ⌝ }
 {
-    let here = current as usize;
-    let distance = keys::from_query(n, d, vectors, query, here);
-    let key = keys::next_key(n, d, vectors, table, query, threshold, here, distance);
+    let distance = keys::from_query(n, d, vectors, query, current as usize);
+    let key = keys::next_key(n, d, vectors, table, query, threshold, current, distance);
     if distance <= key / 128 {
         return stays(Answer::AtEnd, current, moves);
     }
     if 127 <= moves {
         return stays(Answer::Refused(18), current, moves);
     }
-    let next = keys::id_of(key) as u16;
+    let next = keys::id_of(key);
     let count = moves + 1;
     Stepped {
         answer: Answer::Moved,
@@ -146,8 +145,8 @@ fn walk_on(
     requires { ⌜ Taken n d (now vectors) (now table) (now query) start ⌝ }
     ensures { λ r. ⌜ endIn r ≡ endOf n d (now (vectors .entry)) (now (table .entry)) (now (query .entry)) threshold start ⌝ }
 {
-    let mut last = start as usize;
-    let mut distance = keys::from_query(n, d, vectors, query, last);
+    let mut last = start;
+    let mut distance = keys::from_query(n, d, vectors, query, start as usize);
     let mut moves: u16 = 0;
     let mut key = keys::next_key(n, d, vectors, table, query, threshold, last, distance);
     while key / 128 < distance {
@@ -156,9 +155,8 @@ fn walk_on(
         moves += 1;
         key = keys::next_key(n, d, vectors, table, query, threshold, last, distance);
     }
-    let id = last as u16;
     End {
-        last: id,
+        last,
         distance,
         moves,
     }

@@ -55,9 +55,6 @@ returns-2 c =
 id-of-requires : tie.Need-id-of-requires
 id-of-requires c κs = search needs
 
-cast-next : tie.Need-cast-next
-cast-next c = search needs
-
 add-count : tie.Need-add-count
 add-count c = search needs
 
@@ -78,6 +75,5 @@ unrefused-step-spec =
     stays-requires-2
     returns-2
     id-of-requires
-    cast-next
     add-count
     returns-3)

@@ -64,9 +64,6 @@ loop-again c =
       next = c .next-key2 .ensures;
     }
 
-cast-id : tie.Need-cast-id Inv-loop μ-loop
-cast-id c = omega (arith, c .before .loop .inv .passes .within, c .before .before .before .before .before .pre .set .few)
-
 returns : tie.Need-returns Inv-loop μ-loop
 returns c =
     way-ends _ _ _ _ _ _ _ (c .before .loop .inv) (c .before .before .before .before .before .pre .set .few) (c .loop-test .left)
@@ -85,5 +82,4 @@ walk-on-spec =
     next-key-requires-2
     loop-less
     loop-again
-    cast-id
     returns)
