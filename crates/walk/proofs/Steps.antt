@@ -31,9 +31,9 @@ module _ (n d : ℕ) (vectors : List ℤ) (table : List ℕ) (query : List ℤ) 
   unfolding goesTo
   goes-nowhere h = key-stays n (away d vectors query) (edgeIn table n threshold) u few (omega (arith, found, far))
 
-  pub goes-there : key / 128 < distance → (goesTo n d vectors table query threshold u ≡ some (key % 128)) × (away d vectors query (key % 128) ≡ key / 128)
+  pub goes-there : (id : ℕ) → id ≡ key % 128 → key / 128 < distance → (goesTo n d vectors table query threshold u ≡ some id) × (away d vectors query id ≡ key / 128)
   unfolding goesTo
-  goes-there h = rw found (key-moves n (away d vectors query) (edgeIn table n threshold) u few (omega (arith, found, far)))
+  goes-there id e h = rw (e, found) (key-moves n (away d vectors query) (edgeIn table n threshold) u few (omega (arith, found, far)))
 
 -- ---- what a step answers and leaves
 

@@ -31,19 +31,20 @@ module _ (n d : ℕ) (vectors : List ℤ) (table : List ℕ) (query : List ℤ) 
     pub next : key ≡ least (keyed D) (edge last) (distance * 128) n
 
   module _ {last distance moves key : ℕ} (way : Way last distance moves key) (few : n ≤ 128) where
-    -- the next step moves: to an id of the set, and with moves to spare
-    moves-to : key / 128 < distance → stepTo n D edge last ≡ some (key % 128)
-    unfolding goesTo
-    moves-to h = goes-there n d vectors table query threshold last distance key few (way .far) (way .next) h .0
+    -- the next step moves: to an id of the set, with moves to spare
+    module _ (id : ℕ) (e : id ≡ key % 128) (nearer : key / 128 < distance) where
+      moves-to : stepTo n D edge last ≡ some id
+      unfolding goesTo
+      moves-to = goes-there n d vectors table query threshold last distance key few (way .far) (way .next) id e nearer .0
 
-    pub way-passes : key / 128 < distance → Passes n D edge start (at (key % 128) (moves + 1))
-    way-passes h = rw add-one (passes-move n D edge (way .passes) (key % 128) (moves-to h))
+      pub way-passes : Passes n D edge start (at id (moves + 1))
+      way-passes = rw add-one (passes-move n D edge (way .passes) id moves-to)
 
-    pub way-spare : key / 128 < distance → moves + 1 < n
-    way-spare h = rw add-one (passes-short n D edge (way .passes) (key % 128) (moves-to h))
+      pub way-spare : moves + 1 < n
+      way-spare = rw add-one (passes-short n D edge (way .passes) id moves-to)
 
-    pub way-far : key / 128 < distance → key / 128 ≡ D (key % 128)
-    way-far h = sym (goes-there n d vectors table query threshold last distance key few (way .far) (way .next) h .1)
+      pub way-far : key / 128 ≡ D id
+      way-far = sym (goes-there n d vectors table query threshold last distance key few (way .far) (way .next) id e nearer .1)
 
     -- it does not: this is the end
     arrived : distance ≤ key / 128 → ending n d vectors table query threshold start ≡ at last moves

@@ -1,7 +1,7 @@
 // The keys by which a step finds where it moves to. A key is D × 128 + id, so that its order is the order from the query.
 ghost use mathlib.Core.Path.{_≡_};
 ghost use mathlib.Core.Bool.{cond};
-ghost use Prim.Native.Nat.{_*_, _<_, _≤_, min};
+ghost use Prim.Native.Nat.{_*_, _%_, _<_, _≤_, min};
 ghost use Rattle.rules.specs.Points.{away};
 ghost use Rattle.rules.specs.Order.{keyed};
 ghost use Rattle.rules.specs.Labels.{edgeIn};
@@ -25,6 +25,13 @@ fn key_of(n: usize, d: usize, vectors: &[i8], query: &[i8], id: usize) -> u32
     ensures { λ r. ⌜ r ≡ keyed (away d (now (vectors .entry)) (now (query .entry))) id ⌝ }
 {
     from_query(n, d, vectors, query, id) * 128 + id as u32
+}
+
+// The id of a key.
+pub(crate) fn id_of(key: u32) -> u16
+    ensures { λ r. ⌜ r ≡ key % 128 ⌝ }
+{
+    (key % 128) as u16
 }
 
 // The key of an id, if there is an edge to it from the current one and it is smaller than the best so far; or the best so far.
@@ -61,17 +68,18 @@ pub(crate) fn next_key(
     table: &[u16],
     query: &[i8],
     threshold: u16,
-    current: usize,
+    current: u16,
     distance: u32,
 ) -> u32
     requires current { ⌜ Taken n d (now vectors) (now table) (now query) current ⌝ }
     requires bounded { ⌜ distance ≤ 4161600 ⌝ }
     ensures { λ r. ⌜ r ≡ least (keyed (away d (now (vectors .entry)) (now (query .entry)))) (edgeIn (now (table .entry)) n threshold current) (distance * 128) n ⌝ }
 {
+    let here = current as usize;
     let mut best = distance * 128;
     let mut id = 0;
     while id < n {
-        best = better(n, d, vectors, table, query, threshold, current, id, best);
+        best = better(n, d, vectors, table, query, threshold, here, id, best);
         id += 1;
     }
     best

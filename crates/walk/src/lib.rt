@@ -70,6 +70,17 @@ fn walk_refusal(
     0
 }
 
+// An answer that leaves the record as it was.
+fn stays(answer: Answer, current: u16, moves: u16) -> Stepped
+    ensures { λ r. ⌜ (r .answer ≡ answer) × (recordIn r ≡ at current moves) ⌝ }
+{
+    Stepped {
+        answer,
+        current,
+        moves,
+    }
+}
+
 // A step of a walk that is not refused: it may yet be one move too many.
 fn unrefused_step(
     n: usize,
@@ -84,24 +95,15 @@ fn unrefused_step(
     requires { ⌜ walkRefusal n d (length (now vectors)) (length (now table)) (length (now query)) current threshold ≡ 0 ⌝ }
     ensures { λ r. ⌜ (told (r .answer) ≡ stepAnswer n d (now (vectors .entry)) (now (table .entry)) (now (query .entry)) threshold (at current moves)) × (recordIn r ≡ recordAfter n d (now (vectors .entry)) (now (table .entry)) (now (query .entry)) threshold (at current moves)) ⌝ }
 {
-    let here = current as usize;
-    let distance = keys::from_query(n, d, vectors, query, here);
-    let key = keys::next_key(n, d, vectors, table, query, threshold, here, distance);
+    let distance = keys::from_query(n, d, vectors, query, current as usize);
+    let key = keys::next_key(n, d, vectors, table, query, threshold, current, distance);
     if distance <= key / 128 {
-        return Stepped {
-            answer: Answer::AtEnd,
-            current,
-            moves,
-        };
+        return stays(Answer::AtEnd, current, moves);
     }
     if 127 <= moves {
-        return Stepped {
-            answer: Answer::Refused(18),
-            current,
-            moves,
-        };
+        return stays(Answer::Refused(18), current, moves);
     }
-    let next = (key % 128) as u16;
+    let next = keys::id_of(key);
     let count = moves + 1;
     Stepped {
         answer: Answer::Moved,
@@ -125,11 +127,7 @@ pub fn step_at(
 {
     let refusal = walk_refusal(n, d, vectors, table, query, current, threshold);
     if refusal != 0 {
-        return Stepped {
-            answer: Answer::Refused(refusal),
-            current,
-            moves,
-        };
+        return stays(Answer::Refused(refusal), current, moves);
     }
     unrefused_step(n, d, vectors, table, query, threshold, current, moves)
 }
@@ -147,19 +145,18 @@ fn walk_on(
     requires { ⌜ Taken n d (now vectors) (now table) (now query) start ⌝ }
     ensures { λ r. ⌜ endIn r ≡ endOf n d (now (vectors .entry)) (now (table .entry)) (now (query .entry)) threshold start ⌝ }
 {
-    let mut last = start as usize;
-    let mut distance = keys::from_query(n, d, vectors, query, last);
+    let mut last = start;
+    let mut distance = keys::from_query(n, d, vectors, query, start as usize);
     let mut moves: u16 = 0;
     let mut key = keys::next_key(n, d, vectors, table, query, threshold, last, distance);
     while key / 128 < distance {
-        last = (key % 128) as usize;
+        last = keys::id_of(key);
         distance = key / 128;
         moves += 1;
         key = keys::next_key(n, d, vectors, table, query, threshold, last, distance);
     }
-    let id = last as u16;
     End {
-        last: id,
+        last,
         distance,
         moves,
     }

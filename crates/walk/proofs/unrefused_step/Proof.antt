@@ -1,10 +1,12 @@
 -- `walk::unrefused_step` meets its contract: at its end, one move too many, or a move. Assumes nothing.
-use Prim.Native.Nat.{_%_}
-use mathlib.Core.Path.{_≡_}
-use mathlib.Core.Option.{some}
+use Prim.Native.Nat.{ℕ, _/_, _%_, _≤_, _<_}
+use native.Mathlib.Omega.{arith}
+use mathlib.Core.Path.{_≡_, refl, ap, _∙_}
+use mathlib.Core.Option.{none, some}
 use borrow.Author.Needs.{needs}
 use denote.Ref.{now}
 use Rattle.rules.specs.Entries.{goesTo}
+use Rattle.walk.specs.Answers.{told}
 use Rattle.walk.specs.Taken.{Taken}
 use Rattle.walk.proofs.Taken.{taken}
 use Rattle.walk.proofs.Steps.{goes-nowhere, goes-there, step-ends, step-full, step-moves}
@@ -20,31 +22,58 @@ from-query-requires c κs = let k = known (c .before) in (k .set, k .within)
 next-key-requires : tie.Need-next-key-requires
 next-key-requires c κs = (known (c .before .before), c .from-query .ensures .1)
 
+-- what is found, and whether it is nearer
+module _ (c : tie.After-next-key) where
+  few : c .before .before .before .args .n ≤ 128
+  few = known (c .before .before .before) .set .few
+
+  nowhere : c .before .from-query .result ≤ c .next-key .result / 128 → let a = c .before .before .before .args in goesTo (a .n) (a .d) (now (a .vectors)) (now (a .table)) (now (a .query)) (a .threshold) (a .current) ≡ none
+  nowhere h = goes-nowhere _ _ _ _ _ _ _ _ _ few (c .before .from-query .ensures .0) (c .next-key .ensures) h
+
+  goes : (id : ℕ) → id ≡ c .next-key .result % 128 → c .next-key .result / 128 < c .before .from-query .result → let a = c .before .before .before .args in goesTo (a .n) (a .d) (now (a .vectors)) (now (a .table)) (now (a .query)) (a .threshold) (a .current) ≡ some id
+  goes id e h = goes-there _ _ _ _ _ _ _ _ _ few (c .before .from-query .ensures .0) (c .next-key .ensures) id e h .0
+
+stays-requires : tie.Need-stays-requires
+stays-requires c κs = search needs
+
 returns : tie.Need-returns
 returns c =
-    let k = c .before in
-    let s = k .before .before .before in
-    step-ends _ _ _ _ _ _ _ (s .pre) (goes-nowhere _ _ _ _ _ _ _ _ _ (known s .set .few) (k .before .from-query .ensures .0) (k .next-key .ensures) (c .if1 .taken))
+    let k = c .before .before in
+    let s = step-ends _ _ _ _ _ _ _ (k .before .before .before .pre) (nowhere k (omega arith)) in
+    (ap told (c .stays .ensures .0) ∙ s .0, c .stays .ensures .1 ∙ s .1)
 
--- where the step is due to move to
-goes : (c : tie.Else1) → let a = c .before .before .before .before .args in goesTo (a .n) (a .d) (now (a .vectors)) (now (a .table)) (now (a .query)) (a .threshold) (a .current) ≡ some (c .before .next-key .result % 128)
-goes c =
-    let k = c .before in
-    goes-there _ _ _ _ _ _ _ _ _ (known (k .before .before .before) .set .few) (k .before .from-query .ensures .0) (k .next-key .ensures) (c .if1 .left) .0
+stays-requires-2 : tie.Need-stays-requires-2
+stays-requires-2 c κs = search needs
 
 returns-2 : tie.Need-returns-2
-returns-2 c = step-full _ _ _ _ _ _ _ (c .before .before .before .before .before .pre) _ (goes (c .before)) (c .if2 .taken)
+returns-2 c =
+    let k = c .before .before .before in
+    let full : 127 ≤ k .before .before .before .args .moves = omega arith in
+    let s = step-full _ _ _ _ _ _ _ (k .before .before .before .pre) _ (goes k _ refl (omega arith)) full in
+    (ap told (c .stays2 .ensures .0) ∙ s .0, c .stays2 .ensures .1 ∙ s .1)
 
-cast-next : tie.Need-cast-next
-cast-next c = search needs
+id-of-requires : tie.Need-id-of-requires
+id-of-requires c κs = search needs
 
 add-count : tie.Need-add-count
 add-count c = search needs
 
 returns-3 : tie.Need-returns-3
-returns-3 c = step-moves _ _ _ _ _ _ _ (c .before .before .before .before .before .pre) _ (goes (c .before)) (c .if2 .left)
+returns-3 c =
+    let b = c .before in
+    let spare : b .before .before .before .before .before .args .moves < 127 = omega arith in
+    step-moves _ _ _ _ _ _ _ (b .before .before .before .before .before .pre) _ (goes (b .before .before) _ (c .id-of .ensures) (omega arith)) spare
 
 pub unrefused-step-spec : {M : Type 1} → statement M
 unrefused-step-spec =
     tie.close
-    (tie.spec from-query-requires next-key-requires returns returns-2 cast-next add-count returns-3)
+    (tie.spec
+    from-query-requires
+    next-key-requires
+    stays-requires
+    returns
+    stays-requires-2
+    returns-2
+    id-of-requires
+    add-count
+    returns-3)

@@ -1,4 +1,5 @@
 -- `walk::walk_on` meets its contract. The loop keeps that the walk is on its way; the measure is D. Assumes nothing.
+use Prim.Native.Nat.{_/_, _≤_, _<_}
 use native.Mathlib.Omega.{arith}
 use borrow.Author.Needs.{needs}
 use Rattle.laws.proofs.Walking.{passes-start}
@@ -24,21 +25,27 @@ loop-holds c =
     let f = c .before .from-query .ensures in
     record { passes = passes-start _ _ _ _ (c .before .before .before .pre .within); far = f .0; bounded = f .1; next = c .next-key .ensures }
 
-cast-last : tie.Need-cast-last Inv-loop μ-loop
-cast-last c = omega arith
+id-of-requires : tie.Need-id-of-requires Inv-loop μ-loop
+id-of-requires c κs = search needs
+
+-- a turn moves to a nearer id of the set, with moves to spare
+module _ (c : tie.After-id-of Inv-loop μ-loop) where
+  few : c .before .before .before .before .before .before .args .n ≤ 128
+  few = c .before .before .before .before .before .before .pre .set .few
+
+  nearer : c .before .before .loop .key / 128 < c .before .before .loop .distance
+  nearer = omega arith
 
 add-moves : tie.Need-add-moves Inv-loop μ-loop
-add-moves c =
-    let few = c .before .before .before .before .before .pre .set .few in
-    omega (arith, few, way-spare _ _ _ _ _ _ _ (c .before .loop .inv) few (c .loop-test .taken))
+add-moves c = omega (arith, few c, way-spare _ _ _ _ _ _ _ (c .before .before .loop .inv) (few c) _ (c .id-of .ensures) (nearer c))
 
 next-key-requires-2 : tie.Need-next-key-requires-2 Inv-loop μ-loop
 next-key-requires-2 c κs =
-    let s = c .before .before .before .before .before .pre in (
+    let s = c .before .before .before .before .before .before .pre in (
       record {
         set = s .set;
         whole = s .whole;
-        within = way-passes _ _ _ _ _ _ _ (c .before .loop .inv) (s .set .few) (c .loop-test .taken) .within;
+        within = way-passes _ _ _ _ _ _ _ (c .before .before .loop .inv) (few c) _ (c .id-of .ensures) (nearer c) .within;
       },
       omega arith,
     )
@@ -49,16 +56,13 @@ loop-less c = omega arith
 loop-again : tie.Need-loop-again Inv-loop μ-loop
 loop-again c =
     let t = c .before in
-    let few = t .before .before .before .before .before .pre .set .few in
+    let l = t .before .before .loop .inv in
     record {
-      passes = way-passes _ _ _ _ _ _ _ (t .before .loop .inv) few (t .loop-test .taken);
-      far = way-far _ _ _ _ _ _ _ (t .before .loop .inv) few (t .loop-test .taken);
+      passes = way-passes _ _ _ _ _ _ _ l (few t) _ (t .id-of .ensures) (nearer t);
+      far = way-far _ _ _ _ _ _ _ l (few t) _ (t .id-of .ensures) (nearer t);
       bounded = omega arith;
       next = c .next-key2 .ensures;
     }
-
-cast-id : tie.Need-cast-id Inv-loop μ-loop
-cast-id c = omega (arith, c .before .loop .inv .passes .within, c .before .before .before .before .before .pre .set .few)
 
 returns : tie.Need-returns Inv-loop μ-loop
 returns c =
@@ -73,10 +77,9 @@ walk-on-spec =
     from-query-requires
     next-key-requires
     loop-holds
-    cast-last
+    id-of-requires
     add-moves
     next-key-requires-2
     loop-less
     loop-again
-    cast-id
     returns)

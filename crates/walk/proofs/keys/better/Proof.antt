@@ -6,8 +6,6 @@ use Rattle.laws.proofs.Refusals.{small-square}
 use Rattle.walk.proofs.Least.{cell-in, no-edge-self, no-edge-above, edge-there, without-edge, with-smaller, with-larger}
 use Rattle.walk.proofs.keys.better.Statement.{statement}
 use Rattle.walk.proofs.keys.better.Tie as tie
-use Rattle.walk.proofs.keys.better.Reads as reads
-use Rattle.walk.proofs.keys.better.Lts as lts
 
 -- the cell that is looked at
 inside : (c : tie.Else1) → c .before .before .args .current * c .before .before .args .n + c .before .before .args .id < c .before .before .args .n * c .before .before .args .n
@@ -42,12 +40,14 @@ key-of-requires c κs = search needs
 returns-3 : tie.Need-returns-3
 returns-3 c =
     let e = c .before .before in
-    with-smaller _ _ (edge-there _ _ _ _ _ (e .before .before .if1 .left) (e .if2 .left)) _ (c .before .key-of .ensures) (c .if3 .taken)
+    let less : c .before .key-of .result < e .before .before .before .before .args .best = omega arith in
+    with-smaller _ _ (edge-there _ _ _ _ _ (e .before .before .if1 .left) (e .if2 .left)) _ (c .before .key-of .ensures) less
 
 returns-4 : tie.Need-returns-4
 returns-4 c =
     let e = c .before .before in
-    with-larger _ _ (edge-there _ _ _ _ _ (e .before .before .if1 .left) (e .if2 .left)) _ (c .before .key-of .ensures) (c .if3 .left)
+    let more : e .before .before .before .before .args .best ≤ c .before .key-of .result = omega arith in
+    with-larger _ _ (edge-there _ _ _ _ _ (e .before .before .if1 .left) (e .if2 .left)) _ (c .before .key-of .ensures) more
 
 pub better-spec : {M : Type 1} → statement M
 better-spec =

@@ -12,11 +12,11 @@ use Rattle.walk.proofs.keys.next_key.Statement.{statement}
 use Rattle.walk.proofs.keys.next_key.Tie as tie
 
 abbrev Inv-loop : tie.InvT-loop
-Inv-loop n d vectors table query threshold current distance best₀ id₀ best id =
+Inv-loop n d vectors table query threshold current distance here best₀ id₀ best id =
     (id ≤ n) × (best ≡ least (keyed (away d vectors query)) (edgeIn table n threshold current) (distance * 128) id)
 
 abbrev μ-loop : tie.MeasureT-loop
-μ-loop n d vectors table query threshold current distance best₀ id₀ best id = n - id
+μ-loop n d vectors table query threshold current distance here best₀ id₀ best id = n - id
 
 mul-best : tie.Need-mul-best Inv-loop μ-loop
 mul-best c = omega arith
