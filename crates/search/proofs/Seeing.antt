@@ -148,9 +148,9 @@ module _ {n d : ℕ} {vectors query : List ℤ} (g : Given n d vectors query) wh
   unfolding keyed
   measured-key id m l e = ap (λ (x : ℕ). x * 128 + id) (e ∙ measured n d vectors (g .set-given) query (g .query-is) id l)
 
-  pub see-holds : {flags line line′ : List ℕ} {seen from : ℕ} → Lined n (keyOf d vectors query) flags line seen from → (id m r from′ : ℕ) → id < n → getD flags id 0 ≡ 0 → m ≡ dist (take 64 (pointOf n d vectors id)) (take 64 query) → Put line seen (m * 128 + id) r line′ → from′ ≡ min r from → Lined n (keyOf d vectors query) (set flags id 1) line′ (seen + 1) from′
-  see-holds {line = line} {line′ = line′} {seen = seen} h id m r from′ l f e p q =
-      rw q (see-lined n (away d vectors query) given-small h id l f (subst (λ (k : ℕ). Put line seen k r line′) (measured-key id m l e) p))
+  pub see-holds : {flags line line′ : List ℕ} {seen from : ℕ} → Lined n (keyOf d vectors query) flags line seen from → (id m key r from′ : ℕ) → id < n → getD flags id 0 ≡ 0 → m ≡ dist (take 64 (pointOf n d vectors id)) (take 64 query) → key ≡ m * 128 + id → Put line seen key r line′ → from′ ≡ min r from → Lined n (keyOf d vectors query) (set flags id 1) line′ (seen + 1) from′
+  see-holds {line = line} {line′ = line′} {seen = seen} h id m key r from′ l f e q p w =
+      rw w (see-lined n (away d vectors query) given-small h id l f (subst (λ (k : ℕ). Put line seen k r line′) (q ∙ measured-key id m l e) p))
 
   -- there is room in the line for one more
   pub line-room : {flags line : List ℕ} {seen from : ℕ} → Lined n (keyOf d vectors query) flags line seen from → (id : ℕ) → id < n → getD flags id 0 ≡ 0 → seen < length line

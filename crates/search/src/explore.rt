@@ -26,6 +26,14 @@ pub(crate) fn smaller(x: usize, y: usize) -> usize
     if x < y { x } else { y }
 }
 
+// The key of a point, by which the line is in order: smaller D first, and at equal D the lower id.
+fn key_of(distance: u32, id: u32) -> u32
+    requires { ⌜ (distance ≤ 4161600) × (id < 128) ⌝ }
+    ensures { λ r. ⌜ r ≡ distance * 128 + id ⌝ }
+{
+    distance * 128 + id
+}
+
 // A point that was not seen becomes seen: its key goes into the line.
 pub(crate) fn see(
     n: usize,
@@ -46,7 +54,7 @@ pub(crate) fn see(
     let seen = front.seen;
     let from = front.from;
     flags[id] = 1;
-    let key = space::measure(n, d, vectors, id, query) * 128 + (id as u32);
+    let key = key_of(space::measure(n, d, vectors, id, query), id as u32);
     let at = line::put(line, seen, key);
     Front {
         seen: seen + 1,
