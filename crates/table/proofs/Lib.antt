@@ -7,4 +7,5 @@ pub mod Least
 pub mod Settled
 pub mod Starting
 pub mod Turns
+pub mod Cells
 pub mod Whole
