@@ -2,3 +2,4 @@
 pub mod Answers
 pub mod Put
 pub mod AsRead
+pub mod Past

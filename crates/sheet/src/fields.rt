@@ -4,6 +4,7 @@ ghost use mathlib.Core.Path.{_≡_};
 ghost use Prim.Native.Nat.{_+_, _-_, _*_, _≤_, _<_, min};
 ghost use lib.ListN.{length, getD};
 ghost use Rattle.rules.specs.Sheet.{fieldAt};
+ghost use Rattle.sheet.specs.Past.{pastAt};
 
 fn least(a: usize, b: usize) -> usize
     ensures { λ r. ⌜ r ≡ min a b ⌝ }
@@ -63,4 +64,15 @@ pub(crate) fn field_at(sheet: &[u8], at: usize, bits: usize) -> u16
         return 0;
     }
     field_in(sheet, at, there)
+}
+
+// The bit that stands `bits` after bit `at`, or the last one that a usize can name.
+pub(crate) fn past_at(at: usize, bits: usize) -> usize
+    ensures { λ r. ⌜ r ≡ pastAt at bits ⌝ }
+{
+    if bits <= 18446744073709551615 - at {
+        at + bits
+    } else {
+        18446744073709551615
+    }
 }

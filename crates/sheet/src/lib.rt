@@ -1,5 +1,6 @@
 // Writes and reads test sheets (document 01, "Test sheet").
 mod fields;
+pub mod place;
 mod put;
 mod read;
 mod refuse;
@@ -96,12 +97,12 @@ pub fn ask(sheet: &[u8], number: u16, query: &mut [i8]) -> Asked
         return Asked::Refused(refusal);
     }
     let head = read::head(sheet);
-    let place = read::bit_count(head.n, head.d, head.c, read::wide(number));
-    read::read_values(sheet, place + 36, head.c, query);
+    let at = read::bit_count(head.n, head.d, head.c, read::wide(number));
+    read::read_values(sheet, at + 36, head.c, query);
     Asked::Numbers {
-        start: fields::field_at(sheet, place, 7),
-        width: fields::field_at(sheet, place + 7, 7) + 1,
-        k: fields::field_at(sheet, place + 14, 7) + 1,
-        threshold: fields::field_at(sheet, place + 21, 15),
+        start: place::field_from(sheet, at, 7),
+        width: place::field_from(sheet, at + 7, 7) + 1,
+        k: place::field_from(sheet, at + 14, 7) + 1,
+        threshold: place::field_from(sheet, at + 21, 15),
     }
 }

@@ -1,6 +1,6 @@
 // Reading a sheet: its header, its refusals and its values.
 use crate::Head;
-use crate::fields::field_at;
+use crate::place::field_from;
 use crate::values::signed_value;
 ghost use mathlib.Core.Path.{_≡_};
 ghost use Prim.Native.Nat.{_+_, _*_, _^_, _≤_, _<_};
@@ -21,10 +21,10 @@ pub(crate) fn head(sheet: &[u8]) -> Head
     ensures { λ r. ⌜ r ≡ headOf (now (sheet .entry)) ⌝ }
 {
     Head {
-        n: wide(field_at(sheet, 0, 7)) + 1,
-        d: wide(field_at(sheet, 7, 6)) + 1,
-        c: wide(field_at(sheet, 13, 3)) + 1,
-        asks: wide(field_at(sheet, 16, 8)),
+        n: wide(field_from(sheet, 0, 7)) + 1,
+        d: wide(field_from(sheet, 7, 6)) + 1,
+        c: wide(field_from(sheet, 13, 3)) + 1,
+        asks: wide(field_from(sheet, 16, 8)),
     }
 }
 
@@ -56,7 +56,7 @@ pub(crate) fn sheet_refusal(sheet: &[u8]) -> u8
     if needed < bytes {
         return 16;
     }
-    if 0 < field_at(sheet, bits, bytes * 8 - bits) {
+    if 0 < field_from(sheet, bits, bytes * 8 - bits) {
         return 16;
     }
     0
@@ -103,7 +103,7 @@ pub(crate) fn read_values(sheet: &[u8], at: usize, c: usize, buffer: &mut [i8])
     let mut i = 0;
     let mut p = at;
     while i < buffer.len() {
-        buffer[i] = signed_value(c, field_at(sheet, p, c));
+        buffer[i] = signed_value(c, field_from(sheet, p, c));
         p += c;
         i += 1;
     }

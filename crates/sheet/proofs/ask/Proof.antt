@@ -13,7 +13,7 @@ use Rattle.sheet.proofs.ask.Statement.{statement}
 use Rattle.sheet.proofs.ask.Tie as tie
 use Rattle.sheet.proofs.ask.Reads as reads
 use Rattle.sheet.proofs.ask.Lts as lts
-use Rattle.sheet.proofs.fields.field_at.Reads as field-at-reads
+use Rattle.sheet.proofs.place.field_from.Reads as field-from-reads
 use Rattle.sheet.proofs.read.bit_count.Reads as bit-count-reads
 use Rattle.sheet.proofs.read.head.Reads as head-reads
 use Rattle.sheet.proofs.read.one_ask_refusal.Reads as one-ask-refusal-reads
@@ -49,32 +49,32 @@ read-values-requires c κs =
     let s = head-small (c .before .before .before .before .before .before .before .args .sheet .now) (c .before .before .before .head .result) (c .before .before .before .head .ensures) in
     (s .2, s .3, query-small (c .before .before .before .before .before .before .before .args .sheet .now) (c .before .before .before .head .result) (c .before .before .before .head .ensures) (c .before .before .before .before .before .before .before .args .number) (c .before .before .wide .result) (c .before .before .wide .ensures .0) (length (c .before .before .before .before .before .before .before .args .query .now)) (c .before .before .before .before .before .one-ask-refusal .result) (c .before .before .before .before .before .one-ask-refusal .ensures) (c .before .before .before .before .if1 .left) (c .before .bit-count .result) (c .before .bit-count .ensures .0))
 
-field-at-requires : tie.Need-field-at-requires
-field-at-requires c κs = search needs
+field-from-requires : tie.Need-field-from-requires
+field-from-requires c κs = search needs
 
-add-field-at : tie.Need-add-field-at
-add-field-at c = search needs
+add-field-from : tie.Need-add-field-from
+add-field-from c = search needs
 
-field-at-requires-2 : tie.Need-field-at-requires-2
-field-at-requires-2 c κs = search needs
+field-from-requires-2 : tie.Need-field-from-requires-2
+field-from-requires-2 c κs = search needs
 
 add-t14 : tie.Need-add-t14
-add-t14 c = omega (arith, plus-one (c .before .before .before .before .before .before .before .before .before .before .before .args .sheet .now) (c .before .before .before .before .before .before .before .head .result) (c .before .before .before .before .before .before .before .head .ensures) (c .before .before .before .before .before .before .before .before .before .before .before .args .number) (c .before .before .before .before .before .before .wide .result) (c .before .before .before .before .before .before .wide .ensures .0) (length (c .before .before .before .before .before .before .before .before .before .before .before .args .query .now)) (c .before .before .before .before .before .before .before .before .before .one-ask-refusal .result) (c .before .before .before .before .before .before .before .before .before .one-ask-refusal .ensures) (c .before .before .before .before .before .before .before .before .if1 .left) (c .before .before .before .before .before .bit-count .result) (c .before .before .before .before .before .bit-count .ensures .0) 7 (c .field-at2 .result) (c .field-at2 .ensures))
+add-t14 c = omega (arith, plus-one (c .before .before .before .before .before .before .before .before .before .before .before .args .sheet .now) (c .before .before .before .before .before .before .before .head .result) (c .before .before .before .before .before .before .before .head .ensures) (c .before .before .before .before .before .before .before .before .before .before .before .args .number) (c .before .before .before .before .before .before .wide .result) (c .before .before .before .before .before .before .wide .ensures .0) (length (c .before .before .before .before .before .before .before .before .before .before .before .args .query .now)) (c .before .before .before .before .before .before .before .before .before .one-ask-refusal .result) (c .before .before .before .before .before .before .before .before .before .one-ask-refusal .ensures) (c .before .before .before .before .before .before .before .before .if1 .left) (c .before .before .before .before .before .bit-count .result) (c .before .before .before .before .before .bit-count .ensures .0) 7 (c .field-from2 .result) (c .field-from2 .ensures))
 
-add-field-at-2 : tie.Need-add-field-at-2
-add-field-at-2 c = search needs
+add-field-from-2 : tie.Need-add-field-from-2
+add-field-from-2 c = search needs
 
-field-at-requires-3 : tie.Need-field-at-requires-3
-field-at-requires-3 c κs = search needs
+field-from-requires-3 : tie.Need-field-from-requires-3
+field-from-requires-3 c κs = search needs
 
 add-t17 : tie.Need-add-t17
-add-t17 c = omega (arith, plus-one (c .before .before .before .before .before .before .before .before .before .before .before .before .args .sheet .now) (c .before .before .before .before .before .before .before .before .head .result) (c .before .before .before .before .before .before .before .before .head .ensures) (c .before .before .before .before .before .before .before .before .before .before .before .before .args .number) (c .before .before .before .before .before .before .before .wide .result) (c .before .before .before .before .before .before .before .wide .ensures .0) (length (c .before .before .before .before .before .before .before .before .before .before .before .before .args .query .now)) (c .before .before .before .before .before .before .before .before .before .before .one-ask-refusal .result) (c .before .before .before .before .before .before .before .before .before .before .one-ask-refusal .ensures) (c .before .before .before .before .before .before .before .before .before .if1 .left) (c .before .before .before .before .before .before .bit-count .result) (c .before .before .before .before .before .before .bit-count .ensures .0) 14 (c .field-at3 .result) (c .field-at3 .ensures))
+add-t17 c = omega (arith, plus-one (c .before .before .before .before .before .before .before .before .before .before .before .before .args .sheet .now) (c .before .before .before .before .before .before .before .before .head .result) (c .before .before .before .before .before .before .before .before .head .ensures) (c .before .before .before .before .before .before .before .before .before .before .before .before .args .number) (c .before .before .before .before .before .before .before .wide .result) (c .before .before .before .before .before .before .before .wide .ensures .0) (length (c .before .before .before .before .before .before .before .before .before .before .before .before .args .query .now)) (c .before .before .before .before .before .before .before .before .before .before .one-ask-refusal .result) (c .before .before .before .before .before .before .before .before .before .before .one-ask-refusal .ensures) (c .before .before .before .before .before .before .before .before .before .if1 .left) (c .before .before .before .before .before .before .bit-count .result) (c .before .before .before .before .before .before .bit-count .ensures .0) 14 (c .field-from3 .result) (c .field-from3 .ensures))
 
-add-field-at-3 : tie.Need-add-field-at-3
-add-field-at-3 c = search needs
+add-field-from-3 : tie.Need-add-field-from-3
+add-field-from-3 c = search needs
 
-field-at-requires-4 : tie.Need-field-at-requires-4
-field-at-requires-4 c κs = search needs
+field-from-requires-4 : tie.Need-field-from-requires-4
+field-from-requires-4 c κs = search needs
 
 same-length : tie.Need-same-length
 same-length c = search needs
@@ -83,8 +83,8 @@ returns-2 : tie.Need-returns-2
 unfolding askAnswer queryAfter
 returns-2 c = (
   ap {A = Numbers} gives
-      (numbers-are (c .before .before .before .before .before .before .before .before .before .before .before .before .before .args .sheet .now) (c .before .before .before .before .before .before .before .before .before .head .result) (c .before .before .before .before .before .before .before .before .before .head .ensures) (c .before .before .before .before .before .before .before .before .before .before .before .before .before .args .number) (c .before .before .before .before .before .before .before .before .wide .result) (c .before .before .before .before .before .before .before .before .wide .ensures .0) (length (c .before .before .before .before .before .before .before .before .before .before .before .before .before .args .query .now)) (c .before .before .before .before .before .before .before .before .before .before .before .one-ask-refusal .result) (c .before .before .before .before .before .before .before .before .before .before .before .one-ask-refusal .ensures) (c .before .before .before .before .before .before .before .before .before .before .if1 .left) (c .before .before .before .before .before .before .before .bit-count .result) (c .before .before .before .before .before .before .before .bit-count .ensures .0) (c .before .before .before .field-at .result) (c .before .before .field-at2 .result) (c .before .field-at3 .result) (c .field-at4 .result)
-      (c .before .before .before .field-at .ensures) (c .before .before .field-at2 .ensures) (c .before .field-at3 .ensures) (c .field-at4 .ensures))
+      (numbers-are (c .before .before .before .before .before .before .before .before .before .before .before .before .before .args .sheet .now) (c .before .before .before .before .before .before .before .before .before .head .result) (c .before .before .before .before .before .before .before .before .before .head .ensures) (c .before .before .before .before .before .before .before .before .before .before .before .before .before .args .number) (c .before .before .before .before .before .before .before .before .wide .result) (c .before .before .before .before .before .before .before .before .wide .ensures .0) (length (c .before .before .before .before .before .before .before .before .before .before .before .before .before .args .query .now)) (c .before .before .before .before .before .before .before .before .before .before .before .one-ask-refusal .result) (c .before .before .before .before .before .before .before .before .before .before .before .one-ask-refusal .ensures) (c .before .before .before .before .before .before .before .before .before .before .if1 .left) (c .before .before .before .before .before .before .before .bit-count .result) (c .before .before .before .before .before .before .before .bit-count .ensures .0) (c .before .before .before .field-from .result) (c .before .before .field-from2 .result) (c .before .field-from3 .result) (c .field-from4 .result)
+      (c .before .before .before .field-from .ensures) (c .before .before .field-from2 .ensures) (c .before .field-from3 .ensures) (c .field-from4 .ensures))
       ∙ answer-given (c .before .before .before .before .before .before .before .before .before .before .before .one-ask-refusal .result) (oneAskRefusal (c .before .before .before .before .before .before .before .before .before .before .before .before .before .args .sheet .now) (c .before .before .before .before .before .before .before .before .before .before .before .before .before .args .number) (length (c .before .before .before .before .before .before .before .before .before .before .before .before .before .args .query .now))) (c .before .before .before .before .before .before .before .before .before .before .before .one-ask-refusal .ensures) (c .before .before .before .before .before .before .before .before .before .before .if1 .left) (numbersOf (askNumbers (c .before .before .before .before .before .before .before .before .before .before .before .before .before .args .sheet .now) (c .before .before .before .before .before .before .before .before .before .before .before .before .before .args .number))),
   c .before .before .before .before .before .read-values .ensures ∙ query-is (c .before .before .before .before .before .before .before .before .before .before .before .before .before .args .sheet .now) (c .before .before .before .before .before .before .before .before .before .head .result) (c .before .before .before .before .before .before .before .before .before .head .ensures) (c .before .before .before .before .before .before .before .before .before .before .before .before .before .args .number) (c .before .before .before .before .before .before .before .before .wide .result) (c .before .before .before .before .before .before .before .before .wide .ensures .0) (length (c .before .before .before .before .before .before .before .before .before .before .before .before .before .args .query .now)) (c .before .before .before .before .before .before .before .before .before .before .before .one-ask-refusal .result) (c .before .before .before .before .before .before .before .before .before .before .before .one-ask-refusal .ensures) (c .before .before .before .before .before .before .before .before .before .before .if1 .left) (c .before .before .before .before .before .before .before .bit-count .result) (c .before .before .before .before .before .before .before .bit-count .ensures .0) ∙ left-new (c .before .before .before .before .before .before .before .before .before .before .before .one-ask-refusal .result) (oneAskRefusal (c .before .before .before .before .before .before .before .before .before .before .before .before .before .args .sheet .now) (c .before .before .before .before .before .before .before .before .before .before .before .before .before .args .number) (length (c .before .before .before .before .before .before .before .before .before .before .before .before .before .args .query .now))) (c .before .before .before .before .before .before .before .before .before .before .before .one-ask-refusal .ensures) (c .before .before .before .before .before .before .before .before .before .before .if1 .left) (c .before .before .before .before .before .before .before .before .before .before .before .before .before .args .query .now) (askQuery (c .before .before .before .before .before .before .before .before .before .before .before .before .before .args .sheet .now) (c .before .before .before .before .before .before .before .before .before .before .before .before .before .args .number)),
 )
@@ -100,14 +100,14 @@ ask-spec =
     bit-count-requires
     add-read-values
     read-values-requires
-    field-at-requires
-    add-field-at
-    field-at-requires-2
+    field-from-requires
+    add-field-from
+    field-from-requires-2
     add-t14
-    add-field-at-2
-    field-at-requires-3
+    add-field-from-2
+    field-from-requires-3
     add-t17
-    add-field-at-3
-    field-at-requires-4
+    add-field-from-3
+    field-from-requires-4
     same-length
     returns-2)

@@ -6,12 +6,12 @@ use Rattle.sheet.proofs.read.head.Statement.{statement}
 use Rattle.sheet.proofs.read.head.Tie as tie
 use Rattle.sheet.proofs.read.head.Reads as reads
 use Rattle.sheet.proofs.read.head.Lts as lts
-use Rattle.sheet.proofs.fields.field_at.Reads as field-at-reads
+use Rattle.sheet.proofs.place.field_from.Reads as field-from-reads
 use Rattle.sheet.proofs.read.wide.Reads as wide-reads
 
 -- src/read.rt:24:17
-field-at-requires : tie.Need-field-at-requires
-field-at-requires c κs = search needs
+field-from-requires : tie.Need-field-from-requires
+field-from-requires c κs = search needs
 
 -- src/read.rt:24:12
 wide-requires : tie.Need-wide-requires
@@ -22,8 +22,8 @@ add-t4 : tie.Need-add-t4
 add-t4 c = search needs
 
 -- src/read.rt:25:17
-field-at-requires-2 : tie.Need-field-at-requires-2
-field-at-requires-2 c κs = search needs
+field-from-requires-2 : tie.Need-field-from-requires-2
+field-from-requires-2 c κs = search needs
 
 -- src/read.rt:25:12
 wide-requires-2 : tie.Need-wide-requires-2
@@ -34,8 +34,8 @@ add-t7 : tie.Need-add-t7
 add-t7 c = search needs
 
 -- src/read.rt:26:17
-field-at-requires-3 : tie.Need-field-at-requires-3
-field-at-requires-3 c κs = search needs
+field-from-requires-3 : tie.Need-field-from-requires-3
+field-from-requires-3 c κs = search needs
 
 -- src/read.rt:26:12
 wide-requires-3 : tie.Need-wide-requires-3
@@ -46,8 +46,8 @@ add-t10 : tie.Need-add-t10
 add-t10 c = search needs
 
 -- src/read.rt:27:20
-field-at-requires-4 : tie.Need-field-at-requires-4
-field-at-requires-4 c κs = search needs
+field-from-requires-4 : tie.Need-field-from-requires-4
+field-from-requires-4 c κs = search needs
 
 -- src/read.rt:27:15
 wide-requires-4 : tie.Need-wide-requires-4
@@ -58,25 +58,25 @@ returns : tie.Need-returns
 unfolding points coords width askCount
 returns c =
     let p = c .before .before .before .before .before .before in
-    let e₁ = p .wide .ensures .0 ∙ p .before .field-at .ensures in
-    let e₂ = c .before .before .before .before .wide2 .ensures .0 ∙ c .before .before .before .before .before .field-at2 .ensures in
-    let e₃ = c .before .before .wide3 .ensures .0 ∙ c .before .before .before .field-at3 .ensures in
-    let e₄ = c .wide4 .ensures .0 ∙ c .before .field-at4 .ensures in
+    let e₁ = p .wide .ensures .0 ∙ p .before .field-from .ensures in
+    let e₂ = c .before .before .before .before .wide2 .ensures .0 ∙ c .before .before .before .before .before .field-from2 .ensures in
+    let e₃ = c .before .before .wide3 .ensures .0 ∙ c .before .before .before .field-from3 .ensures in
+    let e₄ = c .wide4 .ensures .0 ∙ c .before .field-from4 .ensures in
     λ i. record { n = e₁ i + 1; d = e₂ i + 1; c = e₃ i + 1; asks = e₄ i }
 
 pub head-spec : {M : Type 1} → statement M
 head-spec =
     tie.close
     (tie.spec
-    field-at-requires
+    field-from-requires
     wide-requires
     add-t4
-    field-at-requires-2
+    field-from-requires-2
     wide-requires-2
     add-t7
-    field-at-requires-3
+    field-from-requires-3
     wide-requires-3
     add-t10
-    field-at-requires-4
+    field-from-requires-4
     wide-requires-4
     returns)

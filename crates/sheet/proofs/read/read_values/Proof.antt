@@ -9,7 +9,7 @@ use Rattle.sheet.proofs.read.read_values.Statement.{statement}
 use Rattle.sheet.proofs.read.read_values.Tie as tie
 use Rattle.sheet.proofs.read.read_values.Reads as reads
 use Rattle.sheet.proofs.read.read_values.Lts as lts
-use Rattle.sheet.proofs.fields.field_at.Reads as field-at-reads
+use Rattle.sheet.proofs.place.field_from.Reads as field-from-reads
 use Rattle.sheet.proofs.values.signed_value.Reads as signed-value-reads
 
 abbrev Inv-loop : tie.InvT-loop
@@ -22,11 +22,11 @@ abbrev μ-loop : tie.MeasureT-loop
 loop-holds : tie.Need-loop-holds Inv-loop μ-loop
 loop-holds c = (omega arith, refl, omega arith, refl)
 
-field-at-requires : tie.Need-field-at-requires Inv-loop μ-loop
-field-at-requires c κs = search needs
+field-from-requires : tie.Need-field-from-requires Inv-loop μ-loop
+field-from-requires c κs = search needs
 
 signed-value-requires : tie.Need-signed-value-requires Inv-loop μ-loop
-signed-value-requires c κs = (c .before .before .before .before .pre .0, c .before .before .before .before .pre .1, read-small (c .before .before .before .before .args .sheet .now) (c .before .before .before .before .args .c) (c .before .before .loop .buffer) (c .before .before .loop .i) (c .before .before .loop .p) (c .before .loop-test .taken) (c .before .before .before .before .pre .1) (c .field-at .result) (c .field-at .ensures))
+signed-value-requires c κs = (c .before .before .before .before .pre .0, c .before .before .before .before .pre .1, read-small (c .before .before .before .before .args .sheet .now) (c .before .before .before .before .args .c) (c .before .before .loop .buffer) (c .before .before .loop .i) (c .before .before .loop .p) (c .before .loop-test .taken) (c .before .before .before .before .pre .1) (c .field-from .result) (c .field-from .ensures))
 
 slice-set-from-buffer : tie.Need-slice-set-from-buffer Inv-loop μ-loop
 slice-set-from-buffer c = omega arith
@@ -50,7 +50,7 @@ loop-again c =
       simp length-set (omega arith),
       simp length-set (omega arith),
       omega arith,
-      reading-more (c .before .before .before .before .before .args .sheet .now) (c .before .before .before .before .before .args .c) (c .before .before .before .loop .buffer) (c .before .before .before .loop .i) (c .before .before .before .loop .p) (c .before .before .loop-test .taken) (c .before .before .before .before .before .pre .1) (c .before .field-at .result) (c .before .field-at .ensures) (f .result) (f .ensures) (record { sfits = f .ok }) ∙ c .before .before .before .loop .inv .3,
+      reading-more (c .before .before .before .before .before .args .sheet .now) (c .before .before .before .before .before .args .c) (c .before .before .before .loop .buffer) (c .before .before .before .loop .i) (c .before .before .before .loop .p) (c .before .before .loop-test .taken) (c .before .before .before .before .before .pre .1) (c .before .field-from .result) (c .before .field-from .ensures) (f .result) (f .ensures) (record { sfits = f .ok }) ∙ c .before .before .before .loop .inv .3,
     )
 
 same-length : tie.Need-same-length Inv-loop μ-loop
@@ -67,7 +67,7 @@ read-values-spec =
     Inv-loop
     μ-loop
     loop-holds
-    field-at-requires
+    field-from-requires
     signed-value-requires
     slice-set-from-buffer
     add-p

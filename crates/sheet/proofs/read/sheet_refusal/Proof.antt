@@ -6,7 +6,7 @@ use Rattle.sheet.proofs.read.sheet_refusal.Statement.{statement}
 use Rattle.sheet.proofs.read.sheet_refusal.Tie as tie
 use Rattle.sheet.proofs.read.sheet_refusal.Reads as reads
 use Rattle.sheet.proofs.read.sheet_refusal.Lts as lts
-use Rattle.sheet.proofs.fields.field_at.Reads as field-at-reads
+use Rattle.sheet.proofs.place.field_from.Reads as field-from-reads
 use Rattle.sheet.proofs.read.bit_count.Reads as bit-count-reads
 use Rattle.sheet.proofs.read.head.Reads as head-reads
 
@@ -36,22 +36,22 @@ returns-4 : tie.Need-returns-4
 returns-4 c =
     length-over (c .before .before .before .before .before .before .before .before .args .sheet .now) (c .before .before .before .before .before .head .result) (c .before .before .before .before .before .head .ensures) (c .before .before .bit-count .result) (c .before .before .bit-count .ensures .0) (c .before .before .before .before .before .before .if1 .left) (c .before .before .before .if2 .left) (c .if4 .taken)
 
-mul-field-at : tie.Need-mul-field-at
-mul-field-at c = search needs
+mul-field-from : tie.Need-mul-field-from
+mul-field-from c = search needs
 
-sub-field-at : tie.Need-sub-field-at
-sub-field-at c = search needs
+sub-field-from : tie.Need-sub-field-from
+sub-field-from c = search needs
 
-field-at-requires : tie.Need-field-at-requires
-field-at-requires c κs = search needs
+field-from-requires : tie.Need-field-from-requires
+field-from-requires c κs = search needs
 
 returns-5 : tie.Need-returns-5
 returns-5 c =
-    filling-set (c .before .before .before .before .before .before .before .before .before .before .args .sheet .now) (c .before .before .before .before .before .before .before .head .result) (c .before .before .before .before .before .before .before .head .ensures) (c .before .before .before .before .bit-count .result) (c .before .before .before .before .bit-count .ensures .0) (c .before .before .before .before .before .before .before .before .if1 .left) (c .before .before .before .before .before .if2 .left) (omega arith) (c .before .field-at .result) (c .before .field-at .ensures) (c .if5 .taken)
+    filling-set (c .before .before .before .before .before .before .before .before .before .before .args .sheet .now) (c .before .before .before .before .before .before .before .head .result) (c .before .before .before .before .before .before .before .head .ensures) (c .before .before .before .before .bit-count .result) (c .before .before .before .before .bit-count .ensures .0) (c .before .before .before .before .before .before .before .before .if1 .left) (c .before .before .before .before .before .if2 .left) (omega arith) (c .before .field-from .result) (c .before .field-from .ensures) (c .if5 .taken)
 
 returns-6 : tie.Need-returns-6
 returns-6 c =
-    filling-clear (c .before .before .before .before .before .before .before .before .before .before .args .sheet .now) (c .before .before .before .before .before .before .before .head .result) (c .before .before .before .before .before .before .before .head .ensures) (c .before .before .before .before .bit-count .result) (c .before .before .before .before .bit-count .ensures .0) (c .before .before .before .before .before .before .before .before .if1 .left) (c .before .before .before .before .before .if2 .left) (omega arith) (c .before .field-at .result) (c .before .field-at .ensures) (c .if5 .left)
+    filling-clear (c .before .before .before .before .before .before .before .before .before .before .args .sheet .now) (c .before .before .before .before .before .before .before .head .result) (c .before .before .before .before .before .before .before .head .ensures) (c .before .before .before .before .bit-count .result) (c .before .before .before .before .bit-count .ensures .0) (c .before .before .before .before .before .before .before .before .if1 .left) (c .before .before .before .before .before .if2 .left) (omega arith) (c .before .field-from .result) (c .before .field-from .ensures) (c .if5 .left)
 
 pub sheet-refusal-spec : {M : Type 1} → statement M
 sheet-refusal-spec =
@@ -64,8 +64,8 @@ sheet-refusal-spec =
     add-needed
     returns-3
     returns-4
-    mul-field-at
-    sub-field-at
-    field-at-requires
+    mul-field-from
+    sub-field-from
+    field-from-requires
     returns-5
     returns-6)
