@@ -151,7 +151,7 @@ module _ (D : ℕ → ℕ) where
     taken : firsts (keyed D) n k p ≡ take k (firsts (keyed D) n n p)
     taken = whole-take (keyed D) n ordered k (firsts (keyed D) n n p) p (line-whole (keyed D) n ordered p)
 
-    small-ids : (i : ℕ) → i < length (firsts (keyed D) n k p) → getD (firsts (keyed D) n k p) i 0 < 128
+    pub small-ids : (i : ℕ) → i < length (firsts (keyed D) n k p) → getD (firsts (keyed D) n k p) i 0 < 128
     small-ids i l =
         let len : i < min k (length (firsts (keyed D) n n p)) = omega (arith, l, ap length taken, length-take k (firsts (keyed D) n n p)) in
         let e : getD (firsts (keyed D) n k p) i 0 ≡ getD (firsts (keyed D) n n p) i 0 = ap (λ (t : List ℕ). getD t i 0) taken ∙ getD-take k (firsts (keyed D) n n p) i 0 (omega arith) in

@@ -1,0 +1,3 @@
+-- The demands of the minutes, stated of the public entries.
+pub mod Calls
+pub mod Demand3
