@@ -1,3 +1,4 @@
 -- What the builder keeps while it works.
 pub mod Kept
 pub mod Rows
+pub mod Above
