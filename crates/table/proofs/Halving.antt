@@ -8,7 +8,6 @@ use native.Mathlib.Omega.{arith}
 use lib.Dec.{leb}
 use borrow.Author.Tests.{le-leb, lt-leb, leb-true, leb-false}
 use Rattle.rules.specs.Labels.{reaches, notAbove, labelOf}
-use Rattle.table.specs.Above.{Above}
 use Rattle.laws.proofs.Tests.{both, never}
 use Rattle.laws.proofs.Labels.{label-is, reaches-less}
 
@@ -21,19 +20,15 @@ reached a b s h =
     (λ e. rw (e, lt-leb s (a - b) (omega (arith, leb-false (b + s) a e))))
     (both (leb (b + s) a))
 
--- the two choices, one in the other; where the first test fails the second does not matter
-both-tests : (p q q′ : Bool) (t low : ℕ) → (p ≡ true → q ≡ q′) → cond q (cond p t low) low ≡ cond (p && q′) t low
-both-tests true q q′ t low h = ap (λ (b : Bool). cond b t low) (h refl)
-both-tests false true q′ t low h = refl
-both-tests false false q′ t low h = refl
+both-tests : (p q : Bool) (t low : ℕ) → cond q (cond p t low) low ≡ cond (p && q) t low
+both-tests true q t low = refl
+both-tests false true t low = refl
+both-tests false false t low = refl
 
-pub further-is : (a b low half : ℕ) {m x r q : ℕ} → 0 < half → m ≡ a - b → Above m ((low + half) * (low + half)) x → r ≡ cond (leb ((low + half) * (low + half)) m) (low + half) low → q ≡ cond (leb (4 * ((low + half) * (low + half)) * b) (x * x)) r low → q ≡ cond (reaches a b ((low + half) * (low + half))) (low + half) low
-further-is a b low half {m} {x} h em above er eq =
-    let t : 1 ≤ low + half = omega arith in
-    let s = (low + half) * (low + half) in
-    let tests =
-    both-tests (leb s m) (leb (4 * s * b) (x * x)) (leb (4 * s * b) ((m - s) * (m - s))) (low + half) low (λ e. ap (λ (y : ℕ). leb (4 * s * b) (y * y)) (above .is (leb-true s m e))) in
-    eq ∙ rw er (tests ∙ rw (em, reached a b s (mul-le-mul t t)))
+-- the two choices, one after the other
+pub further-is : (a b t low : ℕ) {m x r q : ℕ} → 0 < t → m ≡ a - b → x ≡ m - t * t → r ≡ cond (leb (t * t) m) t low → q ≡ cond (leb (4 * (t * t) * b) (x * x)) r low → q ≡ cond (reaches a b (t * t)) t low
+further-is a b t low h em ex er eq =
+    eq ∙ rw (er, ex, em) (both-tests (leb (t * t) (a - b)) (leb (4 * (t * t) * b) ((a - b - t * t) * (a - b - t * t))) t low ∙ rw (reached a b (t * t) (mul-le-mul h h)))
 
 pub record Halved (a b low width : ℕ) : Type 0 where
   pub some : 1 ≤ width

@@ -1,4 +1,3 @@
 -- What the builder keeps while it works.
 pub mod Kept
 pub mod Rows
-pub mod Above

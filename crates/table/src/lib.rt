@@ -1,13 +1,12 @@
 // The label table of a set.
 ghost use mathlib.Core.Path.{_≡_};
-ghost use Prim.Native.Nat.{_+_, _-_, _*_, _<_, _≤_, min};
+ghost use Prim.Native.Nat.{_-_, _*_, _<_, _≤_, min};
 ghost use mathlib.Core.Bool.{cond};
 ghost use lib.ListN.{length};
 ghost use Rattle.rules.specs.Points.{apart};
 ghost use Rattle.rules.specs.Labels.{reaches, labelOf, tableOf};
 ghost use Rattle.rules.specs.Refusals.{buildRefusal};
 ghost use Rattle.rules.specs.Entries.{tableAfter};
-ghost use Rattle.table.specs.Above.{Above};
 
 mod kept;
 mod rows;
@@ -19,7 +18,6 @@ fn capped(x: u32) -> u32
     if x < 4161600 { x } else { 4161600 }
 }
 
-// x less y, and 0 where y is larger.
 fn less(x: u64, y: u64) -> u64
     ensures { λ r. ⌜ r ≡ x - y ⌝ }
 {
@@ -32,24 +30,14 @@ fn either(test: bool, x: u64, y: u64) -> u64
     if test { x } else { y }
 }
 
-// x less y where y is not larger, and else some number of 32 bits: no branch is needed for it.
-fn above(x: u64, y: u64) -> u64
-    requires { ⌜ (x ≤ 4294967295) × (y ≤ 4294967295) ⌝ }
-    ensures { λ r. ⌜ Above x y r ⌝ }
+// t where it does not exceed the root of a less the root of b, and low where it does. Both tests are made each time, so that the code has no branch.
+fn further(a: u64, b: u64, low: u64, t: u64) -> u64
+    requires { ⌜ (a ≤ 1065369600) × (b ≤ 1065369600) × (0 < t) × (t ≤ 32767) ⌝ }
+    ensures { λ r. ⌜ r ≡ cond (reaches a b (t * t)) t low ⌝ }
 {
-    (x + 4294967296 - y) % 4294967296
-}
-
-// low and half where that does not exceed the root of a less the root of b, and low where it does. Both tests are made each time, so that the code
-// has no branch.
-fn further(a: u64, b: u64, low: u64, half: u64) -> u64
-    requires { ⌜ (a ≤ 1065369600) × (b ≤ 1065369600) × (0 < half) × (low + half ≤ 32767) ⌝ }
-    ensures { λ r. ⌜ r ≡ cond (reaches a b ((low + half) * (low + half))) (low + half) low ⌝ }
-{
-    let t = low + half;
     let s = t * t;
     let most = less(a, b);
-    let x = above(most, s);
+    let x = less(most, s);
     either(4 * s * b <= x * x, either(s <= most, t, low), low)
 }
 
@@ -63,7 +51,7 @@ pub fn label(duv: u32, dwv: u32) -> u16
     let mut width: u64 = 32768;
     while 1 < width {
         let half = width / 2;
-        low = further(a, b, low, half);
+        low = further(a, b, low, low + half);
         width -= half;
     }
     low as u16

@@ -34,6 +34,9 @@ mul-b c = omega arith
 loop-holds : tie.Need-loop-holds Inv-loop μ-loop
 loop-holds c = (omega arith, omega arith, halved-start)
 
+add-further : tie.Need-add-further Inv-loop μ-loop
+add-further c = omega arith
+
 further-requires : tie.Need-further-requires Inv-loop μ-loop
 further-requires c κs = omega arith
 
@@ -69,6 +72,7 @@ label-spec =
     cast-b
     mul-b
     loop-holds
+    add-further
     further-requires
     sub-width
     loop-less
