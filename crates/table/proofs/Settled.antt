@@ -1,8 +1,8 @@
 -- One id of a row after the other: the first of those that wait gets its cell, and then leads if its edge is direct. Assumes nothing.
 use Prim.Native.Nat.{ℕ, _+_, _*_, _/_, _%_, _≤_, _<_, min}
 use mathlib.Core.Path.{_≡_, refl, sym, ap, subst, _∙_}
-use mathlib.Core.Logic.{_≢_, _⊎_, inl, inr, ⊎-elim}
-use mathlib.Core.Bool.{Bool, true, false, cond, not, _&&_}
+use mathlib.Core.Logic.{_≢_, inl, inr, ⊎-elim}
+use mathlib.Core.Bool.{Bool, true, false, cond, _&&_}
 use mathlib.Core.List.{List}
 use native.Mathlib.Nat.{lt-irrefl}
 use native.Mathlib.Omega.{arith}
@@ -10,14 +10,13 @@ use lib.Arith.{digits-div, digits-mod}
 use lib.Dec.{ltb, leb, eqb}
 use lib.ListN.{length, getD, set, length-set}
 use lib.Seq.{getD-set-same, getD-set-other}
-use borrow.Author.Tests.{ltb-true, le-leb, lt-leb, eqb-true, eqb-false, eq-eqb, ne-eqb}
+use borrow.Author.Tests.{eqb-true, eqb-false, eq-eqb, ne-eqb}
 use Rattle.rules.specs.Order.{keyed}
-use Rattle.rules.specs.Edges.{direct}
 use Rattle.rules.specs.Labels.{leads, cell}
-use Rattle.laws.proofs.Tests.{both, never, and-l, and-r, and-i, and-false}
+use Rattle.laws.proofs.Tests.{both, and-l, and-i, and-false}
 use Rattle.laws.proofs.Table.{leads-is}
 use Rattle.table.specs.Kept.{Distances}
-use Rattle.table.specs.Rows.{top, lowest, Least, done, led, Spread, cellBy, Waiting, Leading, Sofar}
+use Rattle.table.specs.Rows.{top, lowest, Least, done, led, Spread, cellBy, Waiting, Sofar}
 use Rattle.table.proofs.Least.{lowest-under, lowest-met, least-add, direct-by, cell-by}
 
 -- ---- who waits

@@ -1,7 +1,6 @@
 -- `table::rows::row` meets its contract. Assumes nothing.
-use mathlib.Core.Path.{refl, _∙_}
+use mathlib.Core.Path.{refl}
 use denote.Ref.{now}
-use lib.ListN.{length-set}
 use Rattle.table.proofs.Starting.{sofar-none, written-none}
 use Rattle.table.proofs.Turns.{row-from}
 use borrow.Author.Needs.{needs}
