@@ -5,7 +5,10 @@ ghost use lib.Dec.{leb};
 ghost use lib.ListN.{length, set, replicate};
 ghost use Rattle.rules.specs.Labels.{cell, tableOf};
 ghost use Rattle.table.specs.Kept.{far, Distances};
-ghost use Rattle.table.specs.Rows.{lowest, led, Spread, cellBy, Queued, Sofar, Written, RowIn};
+ghost use Rattle.table.specs.Rows.{top, lowest, led, Spread, cellBy, Queued, Sofar, Written, RowIn};
+
+// Above every distance and every key: it stands for none.
+const TOP: u32 = 4294967295;
 
 fn smaller(x: u32, y: u32) -> u32
     ensures { λ r. ⌜ r ≡ min x y ⌝ }
@@ -17,7 +20,7 @@ fn smaller(x: u32, y: u32) -> u32
 fn first_key(left: &[u32; 128]) -> u32
     ensures { λ r. ⌜ r ≡ lowest (now (left .entry)) 128 ⌝ }
 {
-    let mut key: u32 = 4294967295;
+    let mut key: u32 = TOP;
     let mut i = 0;
     while i < 128 {
         key = smaller(key, left[i]);
@@ -72,10 +75,10 @@ fn cell_by(duv: u32, m: u32) -> u16
     super::label(duv, m)
 }
 
-// The keys of all ids but u, in order from u. Each other place keeps the largest number.
+// The keys of all ids but u, in order from u. Each other place keeps TOP.
 fn queue(n: usize, between: &[u32; 16384], u: usize, left: &mut [u32; 128])
     requires { ⌜ (u < n) × Distances (far (now between)) n ⌝ }
-    requires { ⌜ now left ≡ replicate 128 4294967295 ⌝ }
+    requires { ⌜ now left ≡ replicate 128 top ⌝ }
     ensures { λ r. ⌜ Queued (far (now (between .entry))) n u (now (left .exit)) ⌝ }
 {
     let from_u = u * 128;
@@ -84,10 +87,10 @@ fn queue(n: usize, between: &[u32; 16384], u: usize, left: &mut [u32; 128])
         left[v] = between[from_u + v] * 128 + (v as u32);
         v += 1;
     }
-    left[u] = 4294967295;
+    left[u] = TOP;
 }
 
-// The cell of the first id of those left, which then leads if its edge is direct.
+// The cell of the first id of those left, which then leads if its edge is direct. No other id that could stand between is left.
 fn settle(
     n: usize,
     between: &[u32; 16384],
@@ -99,15 +102,15 @@ fn settle(
     table: &mut [u16],
 )
     requires { ⌜ (u < n) × Distances (far (now between)) n × (at + n ≤ length (now table)) ⌝ }
-    requires { ⌜ Sofar (far (now between)) n u (now left) (now lead) × (key ≡ lowest (now left) 128) × (key < 4294967295) ⌝ }
+    requires { ⌜ Sofar (far (now between)) n u (now left) (now lead) × (key ≡ lowest (now left) 128) × (key < top) ⌝ }
     ensures { λ r. ⌜ Sofar (far (now (between .entry))) n u (now (left .exit)) (now (lead .exit)) ⌝ }
-    ensures { λ r. ⌜ now (left .exit) ≡ set (now (left .entry)) (key % 128) 4294967295 ⌝ }
+    ensures { λ r. ⌜ now (left .exit) ≡ set (now (left .entry)) (key % 128) top ⌝ }
     ensures { λ r. ⌜ now (table .exit) ≡ set (now (table .entry)) (at + key % 128) (cell (far (now (between .entry))) n u (key % 128)) ⌝ }
 {
     let v = (key % 128) as usize;
     let duv = key / 128;
     let least = lead[v];
-    left[v] = 4294967295;
+    left[v] = TOP;
     table[at + v] = cell_by(duv, least);
     if is_direct(duv, least) {
         spread(between, u, v, lead);
@@ -129,7 +132,7 @@ fn settle_all(
     ensures { λ r. ⌜ RowIn (far (now (between .entry))) n u at (now (table .entry)) (now (table .exit)) ⌝ }
 {
     let mut key = first_key(left);
-    while key < 4294967295 {
+    while key < TOP {
         settle(n, between, u, at, key, left, lead, table);
         key = first_key(left);
     }
@@ -140,8 +143,8 @@ fn row(n: usize, between: &[u32; 16384], u: usize, at: usize, table: &mut [u16])
     requires { ⌜ (u < n) × Distances (far (now between)) n × (at + n ≤ length (now table)) ⌝ }
     ensures { λ r. ⌜ RowIn (far (now (between .entry))) n u at (now (table .entry)) (now (table .exit)) ⌝ }
 {
-    let mut left = [4294967295u32; 128];
-    let mut lead = [4294967295u32; 128];
+    let mut left = [TOP; 128];
+    let mut lead = [TOP; 128];
     queue(n, between, u, &mut left);
     table[at + u] = 65535;
     settle_all(n, between, u, at, &mut left, &mut lead, table);
