@@ -7,14 +7,17 @@ use mathlib.Core.List.{List, [], _∷_}
 use native.Mathlib.Nat.{mul-le-mul, le-trans, lt-irrefl}
 use native.Mathlib.Decide.{decLe}
 use native.Mathlib.Omega.{arith}
-use lib.IntN.{ℤ, pos, negsuc, _-ℤ_, natAbs}
-use lib.ListN.{length, take, drop, length-take, length-drop}
-use Rattle.rules.specs.Points.{dist, coordinates, apart}
+use lib.IntN.{ℤ, pos, negsuc, _+ℤ_, _-ℤ_, natAbs, +ℤ-idl, -ℤ-+ℤ-cancel}
+use lib.Signed.{mag}
+use lib.ListN.{length, getD, drop, length-take, length-drop}
+use lib.Seq.{getD-take, getD-drop}
+use Rattle.rules.specs.Points.{square, dist, coordinates, apart}
 use Rattle.rules.specs.Edges.{direct}
-use Rattle.rules.specs.Labels.{notAbove, largest, labelOf, leads, label, cell}
+use Rattle.rules.specs.Labels.{notAbove, largest, labelOf, leads, cell}
 use Rattle.laws.proofs.Tests.{both, le-or-lt}
 use Rattle.laws.proofs.Order.{first-some, first-cases}
 use Rattle.laws.proofs.Labels.{reaches-facts, reaches-less}
+use Rattle.laws.proofs.Distances.{gap-le}
 use Rattle.laws.proofs.Refusals.{SetOk, room}
 use Rattle.laws.proofs.Table.{cell-direct, cell-label, label-none, label-some, leads-is}
 
@@ -80,3 +83,78 @@ module _ (δ : ℕ → ℕ → ℕ) (n : ℕ) (small : (u v : ℕ) → u < n →
       rw (label-some δ n u v (f .1)) (label-limit (δ u v) (δ (f .0) v) (small u v lu lv) (leads-apart u v (f .0) lu lv (l .0) (l .1))))
       (first-cases (λ w. δ w v) n (leads δ n u v))))
       (both (direct δ n u v))
+
+-- ---- the distances of a set have both properties
+
+zero-square : (k : ℕ) → k * k ≡ 0 → k ≡ 0
+zero-square zero e = refl
+zero-square (suc k) e =
+    let one : 1 ≤ suc k = omega arith in
+    let h : 1 * 1 ≤ suc k * suc k = mul-le-mul one one in
+    absurd (lt-irrefl 0 (omega (arith, e)))
+
+abs-zero : (z : ℤ) → natAbs z ≡ 0 → z ≡ pos 0
+abs-zero (pos n) e = ap pos e
+abs-zero (negsuc n) e = absurd (none e)
+  where
+    none : suc n ≡ 0 → ⊥
+    none e = omega arith
+
+-- whole numbers that are no square apart are the same
+gap-zero : (x y : ℤ) → square (x -ℤ y) ≡ 0 → x ≡ y
+gap-zero x y e = sym (-ℤ-+ℤ-cancel x y) ∙ ap (λ (z : ℤ). z +ℤ y) (abs-zero (x -ℤ y) (zero-square (natAbs (x -ℤ y)) e)) ∙ +ℤ-idl y
+
+-- points at distance 0 are the same
+pub dist-zero : (a b : List ℤ) → length a ≡ length b → dist a b ≡ 0 → a ≡ b
+unfolding dist
+dist-zero [] [] l e = refl
+dist-zero [] (y ∷ b) l e = absurd (none l)
+  where
+    none : 0 ≡ suc (length b) → ⊥
+    none l = omega arith
+dist-zero (x ∷ a) [] l e = absurd (none l)
+  where
+    none : suc (length a) ≡ 0 → ⊥
+    none l = omega arith
+dist-zero (x ∷ a) (y ∷ b) l e = ap₂ (λ z r. z ∷ r) (gap-zero x y (omega arith)) (dist-zero a b (omega arith) (omega arith))
+
+-- every coordinate is a number of 8 bits
+abbrev pub Bytes : List ℤ → Type 0
+Bytes l = (i : ℕ) → i < length l → mag (getD l i (pos 0)) < 128
+
+pub dist-small : (a b : List ℤ) → Bytes a → Bytes b → dist a b ≤ 65025 * length a
+unfolding dist
+dist-small [] b p q = zero-le
+dist-small (x ∷ a) [] p q = zero-le
+dist-small (x ∷ a) (y ∷ b) p q =
+    let g = gap-le x y (p 0 (omega arith)) (q 0 (omega arith)) in
+    let s : square (x -ℤ y) ≤ 255 * 255 = mul-le-mul g g in
+    omega (arith, dist-small a b (λ i l. p (suc i) (omega arith)) (λ i l. q (suc i) (omega arith)))
+
+module _ (n d : ℕ) (vectors : List ℤ) (ok : SetOk n d (length vectors)) where
+  pub coordinates-length : (id : ℕ) → id < n → length (coordinates d vectors id) ≡ d
+  unfolding coordinates
+  coordinates-length id l = simp (length-take, length-drop) (omega (arith, room id ok l))
+
+  pub apart-alike : (u v w : ℕ) → u < n → v < n → w < n → apart d vectors w v ≡ 0 → apart d vectors u w ≡ apart d vectors u v
+  unfolding apart
+  apart-alike u v w lu lv lw e =
+      ap
+      (dist (coordinates d vectors u))
+      (dist-zero (coordinates d vectors w) (coordinates d vectors v) (coordinates-length w lw ∙ sym (coordinates-length v lv)) e)
+
+  coordinates-bytes : Bytes vectors → (id : ℕ) → id < n → Bytes (coordinates d vectors id)
+  unfolding coordinates
+  coordinates-bytes bytes id l i h =
+      let k : i < d = omega (arith, h, coordinates-length id l) in
+      rw (getD-take d (drop (id * d) vectors) i (pos 0) k, getD-drop (id * d) vectors i (pos 0)) (bytes (id * d + i) (omega (arith, room id ok l)))
+
+  pub apart-small : Bytes vectors → (u v : ℕ) → u < n → v < n → apart d vectors u v ≤ 4161600
+  unfolding apart
+  apart-small bytes u v lu lv =
+      omega
+      (arith, dist-small (coordinates d vectors u) (coordinates d vectors v) (coordinates-bytes bytes u lu) (coordinates-bytes bytes v lv), coordinates-length u lu, ok .few-coordinates)
+
+  -- every cell off the diagonal of the set's own table
+  pub own-limit : Bytes vectors → (u v : ℕ) → u < n → v < n → u ≢ v → cell (apart d vectors) n u v ≤ 32624
+  own-limit bytes = cell-limit (apart d vectors) n (apart-small bytes) apart-alike

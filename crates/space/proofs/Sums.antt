@@ -5,7 +5,7 @@ use mathlib.Core.List.{List}
 use native.Mathlib.Nat.{mul-le-mul, zero-add}
 use native.Mathlib.Omega.{arith}
 use lib.IntN.{ℤ, _-ℤ_, natAbs}
-use lib.ListN.{length, getD, take, drop}
+use lib.ListN.{length, getD}
 use lib.Seq.{drop-drop, drop-cons}
 use Rattle.rules.specs.Points.{dist}
 use Rattle.laws.proofs.Distances.{dist-add}

@@ -7,5 +7,4 @@ pub mod Least
 pub mod Settled
 pub mod Starting
 pub mod Turns
-pub mod Cells
 pub mod Whole

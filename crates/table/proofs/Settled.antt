@@ -1,7 +1,7 @@
--- One id of a row after the other: the first of those that wait is decided, and then leads if its edge is direct. Assumes nothing.
+-- One id of a row after the other: the first of those that wait gets its cell, and then leads if its edge is direct. Assumes nothing.
 use Prim.Native.Nat.{ℕ, _+_, _*_, _/_, _%_, _≤_, _<_, min}
 use mathlib.Core.Path.{_≡_, refl, sym, ap, subst, _∙_}
-use mathlib.Core.Logic.{_≢_, _⊎_, inl, inr, ⊎-elim}
+use mathlib.Core.Logic.{_≢_, inl, inr, ⊎-elim}
 use mathlib.Core.Bool.{Bool, true, false, cond, _&&_}
 use mathlib.Core.List.{List}
 use native.Mathlib.Nat.{lt-irrefl}
@@ -12,12 +12,12 @@ use lib.ListN.{length, getD, set, length-set}
 use lib.Seq.{getD-set-same, getD-set-other}
 use borrow.Author.Tests.{eqb-true, eqb-false, eq-eqb, ne-eqb}
 use Rattle.rules.specs.Order.{keyed}
-use Rattle.rules.specs.Labels.{leads}
+use Rattle.rules.specs.Labels.{leads, cell}
 use Rattle.laws.proofs.Tests.{both, and-l, and-i, and-false}
 use Rattle.laws.proofs.Table.{leads-is}
 use Rattle.table.specs.Kept.{Distances}
-use Rattle.table.specs.Rows.{top, lowest, Least, done, led, Spread, Waiting, Sofar}
-use Rattle.table.proofs.Least.{lowest-under, lowest-met, least-add, direct-by}
+use Rattle.table.specs.Rows.{top, lowest, Least, done, led, Spread, cellBy, Waiting, Sofar}
+use Rattle.table.proofs.Least.{lowest-under, lowest-met, least-add, direct-by, cell-by}
 
 -- ---- who waits
 
@@ -79,7 +79,7 @@ chosen {δ} {n} {u} {key} {left} few waiting e h =
     (waiting (f .0) (f .1)))
     (lowest-met left 128)
 
--- ---- what it changes
+-- ---- its cell
 
 and-true : (a : Bool) → a && true ≡ a
 and-true true = refl
@@ -100,6 +100,9 @@ module _ {δ : ℕ → ℕ → ℕ} {n u key v : ℕ} {left lead : List ℕ} (ke
         (λ f. inr (f .0, f .1, and-l (leads δ n u v (f .0)) (done left (f .0)) (f .2), f .3))
         (sofar .leading v (c .below) .met);
   }
+
+  settled-cell : cell δ n u v ≡ cellBy (δ u v) (getD lead v 0)
+  settled-cell = cell-by kept lu (c .below) (c .other) least
 
   -- ---- those that wait afterwards, and those that lead
 
@@ -146,12 +149,18 @@ module _ {δ : ℕ → ℕ → ℕ} {n u key : ℕ} {left lead : List ℕ} (kept
   first : Chosen δ n u left key (key % 128)
   first = chosen (kept .few) (sofar .waiting) e h
 
-  -- the id is one of the set's, and waits
+  -- the id is one of the set's, and its distance within the limit
   pub first-below : key % 128 < n
   first-below = first .below
 
   pub first-waits : done left (key % 128) ≡ false
   first-waits = first .waiting
+
+  pub first-small : key / 128 ≤ 4161600
+  first-small = rw (first .far) (kept .small u (key % 128) lu first-below)
+
+  pub first-cell : {x : ℕ} → x ≡ cellBy (key / 128) (getD lead (key % 128) 0) → x ≡ cell δ n u (key % 128)
+  first-cell p = p ∙ ap (λ (k : ℕ). cellBy k (getD lead (key % 128) 0)) (first .far) ∙ sym (settled-cell kept lu sofar first)
 
   -- where its edge is direct it leads from now on, and otherwise it does not
   pub first-leads : {lead′ : List ℕ} → leb (key / 128) (getD lead (key % 128) 0) ≡ true → Spread δ u (key % 128) lead lead′ → Sofar δ n u (set left (key % 128) top) lead′

@@ -1,8 +1,8 @@
 -- The start of a row: all ids but u wait, and none leads. Assumes nothing.
-use Prim.Native.Nat.{ℕ, _+_, _*_, _≤_, _<_}
-use mathlib.Core.Path.{_≡_, refl, sym, ap, _∙_}
-use mathlib.Core.Logic.{_≢_, inl, inr, ⊎-elim}
-use mathlib.Core.Bool.{Bool, true, false}
+use Prim.Native.Nat.{ℕ, _+_, _≤_, _<_}
+use mathlib.Core.Path.{_≡_, sym, ap, _∙_}
+use mathlib.Core.Logic.{inl, inr, ⊎-elim}
+use mathlib.Core.Bool.{true}
 use mathlib.Core.List.{List}
 use native.Mathlib.Nat.{lt-irrefl}
 use native.Mathlib.Omega.{arith}
@@ -13,9 +13,9 @@ use borrow.Author.Tests.{eqb-true, eqb-false}
 use Rattle.rules.specs.Order.{keyed}
 use Rattle.rules.specs.Labels.{leads}
 use Rattle.laws.proofs.Tests.{both, and-l, and-r, le-or-lt}
-use Rattle.laws.proofs.Table.{leads-is}
+use Rattle.laws.proofs.Table.{leads-is, cell-self}
 use Rattle.table.specs.Kept.{Distances}
-use Rattle.table.specs.Rows.{top, done, Queued, Sofar}
+use Rattle.table.specs.Rows.{top, done, Queued, Sofar, Written}
 use Rattle.table.proofs.Mapped.{Mapped}
 use Rattle.table.proofs.Settled.{done-is}
 
@@ -61,3 +61,14 @@ sofar-none {δ} {n} {u} {left} {lead} kept lu q e = record {
     not-yet x w lw t f =
         let other = leads-is δ n u x w .0 t .0 in
         lt-irrefl top (omega (arith, done-is left w f, q .ids w lw (λ s. other (sym s)), keyed-small u w kept lu lw))
+
+-- only u has its cell at first
+pub written-none : {δ : ℕ → ℕ → ℕ} {n u at : ℕ} {left : List ℕ} (table : List ℕ) → Distances δ n → u < n → at + n ≤ length table → Queued δ n u left → Written δ n u at left (set table (at + u) 65535)
+written-none {δ} {n} {u} {at} {left} table kept lu room q = record {
+  room = simp length-set room;
+  cells = λ v l f.
+      ⊎-elim
+      (λ s. rw (eqb-true v u s) (getD-set-same table (at + u) 65535 0 (omega arith) ∙ sym (cell-self δ n u)))
+      (λ s. absurd (lt-irrefl top (omega (arith, done-is left v f, q .ids v l (eqb-false v u s), keyed-small u v kept lu l))))
+      (both (eqb v u));
+}

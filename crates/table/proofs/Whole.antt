@@ -1,6 +1,6 @@
 -- Row after row: the table is that of document 01 once all rows are written. Assumes nothing.
 use Prim.Native.Nat.{ℕ, _+_, _*_, _/_, _%_, _≤_, _<_}
-use mathlib.Core.Path.{_≡_, refl, sym, ap, subst, _∙_}
+use mathlib.Core.Path.{_≡_, sym, subst, _∙_}
 use mathlib.Core.Logic.{inl, ⊎-elim}
 use mathlib.Core.List.{List}
 use native.Mathlib.Nat.{lt-irrefl, mul-le-mul-right, suc-mul, zero-mul, div-add-mod', div-lt-iff-lt-mul, mod-lt}

@@ -1,5 +1,5 @@
 -- A row of the table: the ids get their cells in order from u, so that of each id all that could stand between are decided before it.
-use Prim.Native.Nat.{ℕ, zero, suc, _+_, _*_, _≤_, _<_, min}
+use Prim.Native.Nat.{ℕ, zero, suc, _+_, _≤_, _<_, min}
 use mathlib.Core.Path.{_≡_}
 use mathlib.Core.Logic.{_≢_, _⊎_}
 use mathlib.Core.Bool.{Bool, true, cond, _&&_}
@@ -62,9 +62,10 @@ module _ (δ : ℕ → ℕ → ℕ) (n u : ℕ) where
     pub waiting : Waiting left
     pub leading : Leading left lead
 
-  -- the least distances once no id waits
-  pub record Led (lead : List ℕ) : Type 0 where
-    pub each : (v : ℕ) → v < n → Least (λ w. δ w v) n (leads δ n u v) (getD lead v 0)
+  -- those that do not wait have their cells in the row that begins at `at`
+  pub record Written (at : ℕ) (left table : List ℕ) : Type 0 where
+    pub room : at + n ≤ length table
+    pub cells : (v : ℕ) → v < n → done left v ≡ true → getD table (at + v) 0 ≡ cell δ n u v
 
   -- a table after row u is written from `at` on: its cells, and all others as they were
   pub record RowIn (at : ℕ) (old new : List ℕ) : Type 0 where

@@ -18,12 +18,14 @@ fn capped(x: u32) -> u32
     if x < 4161600 { x } else { 4161600 }
 }
 
+// x less y, and 0 where y is larger.
 fn less(x: u64, y: u64) -> u64
     ensures { λ r. ⌜ r ≡ x - y ⌝ }
 {
     if x < y { 0 } else { x - y }
 }
 
+// The choice as a function, which the compiler makes without a branch.
 fn either(test: bool, x: u64, y: u64) -> u64
     ensures { λ r. ⌜ r ≡ cond test x y ⌝ }
 {

@@ -3,9 +3,12 @@ ghost use mathlib.Core.Path.{_≡_};
 ghost use Prim.Native.Nat.{_+_, _*_, _<_, _≤_, _%_, min};
 ghost use lib.Dec.{leb};
 ghost use lib.ListN.{length, set, replicate};
-ghost use Rattle.rules.specs.Labels.{tableOf};
+ghost use Rattle.rules.specs.Labels.{cell, tableOf};
 ghost use Rattle.table.specs.Kept.{far, Distances};
-ghost use Rattle.table.specs.Rows.{lowest, led, Spread, cellBy, Queued, Sofar, Led, RowIn};
+ghost use Rattle.table.specs.Rows.{top, lowest, led, Spread, cellBy, Queued, Sofar, Written, RowIn};
+
+// Above every distance and every key: it stands for none.
+const TOP: u32 = 4294967295;
 
 fn smaller(x: u32, y: u32) -> u32
     ensures { λ r. ⌜ r ≡ min x y ⌝ }
@@ -17,7 +20,7 @@ fn smaller(x: u32, y: u32) -> u32
 fn first_key(left: &[u32; 128]) -> u32
     ensures { λ r. ⌜ r ≡ lowest (now (left .entry)) 128 ⌝ }
 {
-    let mut key: u32 = 4294967295;
+    let mut key: u32 = TOP;
     let mut i = 0;
     while i < 128 {
         key = smaller(key, left[i]);
@@ -55,10 +58,10 @@ fn spread(between: &[u32; 16384], u: usize, v: usize, lead: &mut [u32; 128])
 }
 
 // Whether the edge to v is direct, by D(u,v) and the least distance to v from a point that leads.
-fn is_direct(duv: u32, m: u32) -> bool
-    ensures { λ r. ⌜ r ≡ leb duv m ⌝ }
+fn is_direct(duv: u32, least: u32) -> bool
+    ensures { λ r. ⌜ r ≡ leb duv least ⌝ }
 {
-    duv <= m
+    duv <= least
 }
 
 // The cell of an edge by the same two.
@@ -72,10 +75,10 @@ fn cell_by(duv: u32, m: u32) -> u16
     super::label(duv, m)
 }
 
-// The keys of all ids but u, in order from u. Each other place keeps the largest number.
+// The keys of all ids but u, in order from u. Each other place keeps TOP.
 fn queue(n: usize, between: &[u32; 16384], u: usize, left: &mut [u32; 128])
     requires { ⌜ (u < n) × Distances (far (now between)) n ⌝ }
-    requires { ⌜ now left ≡ replicate 128 4294967295 ⌝ }
+    requires { ⌜ now left ≡ replicate 128 top ⌝ }
     ensures { λ r. ⌜ Queued (far (now (between .entry))) n u (now (left .exit)) ⌝ }
 {
     let from_u = u * 128;
@@ -84,79 +87,67 @@ fn queue(n: usize, between: &[u32; 16384], u: usize, left: &mut [u32; 128])
         left[v] = between[from_u + v] * 128 + (v as u32);
         v += 1;
     }
-    left[u] = 4294967295;
+    left[u] = TOP;
 }
 
-// The first id of those left is decided, and leads from now on if its edge is direct.
+// The cell of the first id of those left, which then leads if its edge is direct. No other id that could stand between is left.
 fn settle(
     n: usize,
     between: &[u32; 16384],
     u: usize,
+    at: usize,
     key: u32,
     left: &mut [u32; 128],
     lead: &mut [u32; 128],
+    table: &mut [u16],
 )
-    requires { ⌜ (u < n) × Distances (far (now between)) n ⌝ }
-    requires { ⌜ Sofar (far (now between)) n u (now left) (now lead) × (key ≡ lowest (now left) 128) × (key < 4294967295) ⌝ }
+    requires { ⌜ (u < n) × Distances (far (now between)) n × (at + n ≤ length (now table)) ⌝ }
+    requires { ⌜ Sofar (far (now between)) n u (now left) (now lead) × (key ≡ lowest (now left) 128) × (key < top) ⌝ }
     ensures { λ r. ⌜ Sofar (far (now (between .entry))) n u (now (left .exit)) (now (lead .exit)) ⌝ }
-    ensures { λ r. ⌜ now (left .exit) ≡ set (now (left .entry)) (key % 128) 4294967295 ⌝ }
+    ensures { λ r. ⌜ now (left .exit) ≡ set (now (left .entry)) (key % 128) top ⌝ }
+    ensures { λ r. ⌜ now (table .exit) ≡ set (now (table .entry)) (at + key % 128) (cell (far (now (between .entry))) n u (key % 128)) ⌝ }
 {
     let v = (key % 128) as usize;
     let duv = key / 128;
-    let m = lead[v];
-    left[v] = 4294967295;
-    if is_direct(duv, m) {
+    let least = lead[v];
+    left[v] = TOP;
+    table[at + v] = cell_by(duv, least);
+    if is_direct(duv, least) {
         spread(between, u, v, lead);
     }
 }
 
+// The cells of all ids that are left.
 fn settle_all(
     n: usize,
     between: &[u32; 16384],
     u: usize,
+    at: usize,
     left: &mut [u32; 128],
     lead: &mut [u32; 128],
+    table: &mut [u16],
 )
-    requires { ⌜ (u < n) × Distances (far (now between)) n × Sofar (far (now between)) n u (now left) (now lead) ⌝ }
-    ensures { λ r. ⌜ Led (far (now (between .entry))) n u (now (lead .exit)) ⌝ }
+    requires { ⌜ (u < n) × Distances (far (now between)) n ⌝ }
+    requires { ⌜ Sofar (far (now between)) n u (now left) (now lead) × Written (far (now between)) n u at (now left) (now table) ⌝ }
+    ensures { λ r. ⌜ RowIn (far (now (between .entry))) n u at (now (table .entry)) (now (table .exit)) ⌝ }
 {
     let mut key = first_key(left);
-    while key < 4294967295 {
-        settle(n, between, u, key, left, lead);
+    while key < TOP {
+        settle(n, between, u, at, key, left, lead, table);
         key = first_key(left);
     }
 }
 
-// The cells of row u, from at on. Those of other ids are worked out one after the other, with nothing between, for speed.
-fn write_row(
-    n: usize,
-    between: &[u32; 16384],
-    u: usize,
-    at: usize,
-    lead: &[u32; 128],
-    table: &mut [u16],
-)
-    requires { ⌜ (u < n) × Distances (far (now between)) n × (at + n ≤ length (now table)) × Led (far (now between)) n u (now lead) ⌝ }
-    ensures { λ r. ⌜ RowIn (far (now (between .entry))) n u at (now (table .entry)) (now (table .exit)) ⌝ }
-{
-    let from_u = u * 128;
-    let mut v = 0;
-    while v < n {
-        table[at + v] = cell_by(between[from_u + v], lead[v]);
-        v += 1;
-    }
-    table[at + u] = 65535;
-}
-
+// Row u, from at on.
 fn row(n: usize, between: &[u32; 16384], u: usize, at: usize, table: &mut [u16])
     requires { ⌜ (u < n) × Distances (far (now between)) n × (at + n ≤ length (now table)) ⌝ }
     ensures { λ r. ⌜ RowIn (far (now (between .entry))) n u at (now (table .entry)) (now (table .exit)) ⌝ }
 {
-    let mut left = [4294967295u32; 128];
-    let mut lead = [4294967295u32; 128];
+    let mut left = [TOP; 128];
+    let mut lead = [TOP; 128];
     queue(n, between, u, &mut left);
-    settle_all(n, between, u, &mut left, &mut lead);
-    write_row(n, between, u, at, &lead, table);
+    table[at + u] = 65535;
+    settle_all(n, between, u, at, &mut left, &mut lead, table);
 }
 
 pub(crate) fn rows(n: usize, between: &[u32; 16384], table: &mut [u16])

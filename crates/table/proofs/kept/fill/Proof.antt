@@ -1,11 +1,9 @@
 -- `table::kept::fill` meets its contract. Assumes nothing.
 use Prim.Native.Nat.{_-_, _≤_}
-use mathlib.Core.Path.{_≡_, subst, sym}
 use native.Mathlib.Nat.{le-antisymm}
 use native.Mathlib.Omega.{arith}
 use Rattle.rules.specs.Points.{apart}
 use Rattle.table.specs.Kept.{Filled}
-use Rattle.laws.proofs.Refusals.{set-ok}
 use Rattle.table.proofs.Filling.{filled-none}
 use Rattle.table.proofs.kept.fill.Statement.{statement}
 use Rattle.table.proofs.kept.fill.Tie as tie

@@ -1,11 +1,7 @@
 -- `table::kept::fill_row` meets its contract: the ids before u have their distances, and so has u with those passed. Assumes nothing.
 use Prim.Native.Nat.{_+_, _-_, _≤_, _<_}
-use mathlib.Core.Path.{_≡_, sym, ap, subst, _∙_}
-use mathlib.Core.List.{List}
+use mathlib.Core.Path.{_≡_, _∙_}
 use native.Mathlib.Omega.{arith}
-use denote.Ref.{now}
-use lib.IntN.{ℤ}
-use lib.ListN.{length}
 use Rattle.rules.specs.Points.{apart}
 use Rattle.rules.specs.Entries.{pointOf}
 use Rattle.laws.proofs.Refusals.{set-ok}

@@ -1,8 +1,7 @@
 -- `table::rows::rows` meets its contract: the rows passed are written. Assumes nothing.
 use Prim.Native.Nat.{_-_, _≤_}
-use mathlib.Core.Path.{_≡_, sym, _∙_}
+use mathlib.Core.Path.{sym, _∙_}
 use native.Mathlib.Omega.{arith}
-use lib.ListN.{length}
 use Rattle.table.specs.Kept.{far}
 use Rattle.table.proofs.Whole.{RowsIn, rows-none, row-room, rows-more, rows-end}
 use Rattle.table.proofs.rows.rows.Statement.{statement}

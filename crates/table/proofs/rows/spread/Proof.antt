@@ -1,11 +1,10 @@
 -- `table::rows::spread` meets its contract: the least distances passed are those with v. Assumes nothing.
-use Prim.Native.Nat.{ℕ, _+_, _*_, _-_, _≤_, _<_}
-use mathlib.Core.Path.{_≡_, refl, _∙_}
+use Prim.Native.Nat.{ℕ, _-_, _≤_}
+use mathlib.Core.Path.{_∙_}
 use mathlib.Core.List.{List}
 use native.Mathlib.Omega.{arith}
-use lib.ListN.{length, getD}
 use Rattle.table.specs.Kept.{far}
-use Rattle.table.specs.Rows.{led, Spread}
+use Rattle.table.specs.Rows.{led}
 use Rattle.table.proofs.Mapped.{Mapped, mapped-none, mapped-more}
 use Rattle.table.proofs.rows.spread.Statement.{statement}
 use Rattle.table.proofs.rows.spread.Tie as tie
