@@ -6,10 +6,6 @@ use Rattle.rules.specs.Sheet.{fieldAt}
 use Rattle.laws.proofs.Fields.{field-end, field-none}
 use Rattle.sheet.proofs.fields.field_at.Statement.{statement}
 use Rattle.sheet.proofs.fields.field_at.Tie as tie
-use Rattle.sheet.proofs.fields.field_at.Reads as reads
-use Rattle.sheet.proofs.fields.field_at.Lts as lts
-use Rattle.sheet.proofs.fields.bits_at.Reads as bits-at-reads
-use Rattle.sheet.proofs.fields.field_in.Reads as field-in-reads
 
 -- src/fields.rt:65:9
 bits-at-requires : tie.Need-bits-at-requires

@@ -6,9 +6,6 @@ use lib.ListN.{length, take, drop}
 use Rattle.sheet.proofs.Asking.{Turn, turn-start, turn-end, numbers-left, queries-left, turn-four, turn-fits, turn-values, turn-room, turn-again}
 use Rattle.sheet.proofs.put.put_asks.Statement.{statement}
 use Rattle.sheet.proofs.put.put_asks.Tie as tie
-use Rattle.sheet.proofs.put.put_asks.Reads as reads
-use Rattle.sheet.proofs.put.put_asks.Lts as lts
-use Rattle.sheet.proofs.put.put_ask.Reads as put-ask-reads
 
 abbrev Inv-loop : tie.InvT-loop
 Inv-loop out₀ at d c asks ns qs i₀ j₀ q₀ p₀ out i j q p = Turn d c asks ns qs at out₀ i j q p out
