@@ -1,23 +1,21 @@
 -- What the reading entries answer and leave, from what the code has in hand. Assumes nothing.
-use mathlib.Core.Path.{_≡_, refl, sym, ap, _∙_}
-use mathlib.Core.Bool.{Bool, false}
+use mathlib.Core.Path.{_≡_, sym, ap, _∙_}
+use mathlib.Core.Bool.{false}
 use mathlib.Core.List.{List, [], _∷_}
-use Prim.Native.Nat.{ℕ, zero, suc, _+_, _*_, _^_, _≤_, _<_, min}
-use native.Mathlib.Nat.{mul-le-mul}
+use Prim.Native.Nat.{ℕ, _+_, _*_, _^_, _≤_, _<_, min}
 use native.Mathlib.Omega.{arith}
-use lib.ListN.{length, take, drop}
+use lib.ListN.{take, drop}
 use lib.Seq.{drop-drop}
-use lib.Dec.{leb, eqb}
-use lib.IntN.{ℤ}
+use lib.Dec.{leb}
 use borrow.Author.Tests.{leb-false}
 use Rattle.rules.specs.Bits.{number, values, unpacked}
 use Rattle.rules.specs.Sheet.{bitCount, points, coords, width, askCount, fieldAt, vectorsOf, askPlace, numbersIn, askNumbers, askQuery}
-use Rattle.rules.specs.Outcome.{Outcome, refused, gives, outcome, after, firstOf}
+use Rattle.rules.specs.Outcome.{refused, gives, outcome, after, firstOf}
 use Rattle.rules.specs.Refusals.{differ, refuse3, refuse5, refuse17, sheetRefusal, vectorsRefusal, oneAskRefusal}
-use Rattle.rules.specs.Entries.{Header, headerAnswer, vectorsAfter, Numbers, numbersOf, askAnswer, queryAfter}
+use Rattle.rules.specs.Entries.{Header, Numbers, numbersOf}
 use Rattle.laws.proofs.Refusals.{else-both, skipped, alike, outcome-gives, outcome-refused, after-new, after-old}
 use Rattle.laws.proofs.Fields.{field-lt}
-use Rattle.laws.proofs.Writable.{Readable, readable, few-products, few-bits}
+use Rattle.laws.proofs.Writable.{readable, few-products, few-bits}
 use Rattle.sheet.specs.declared.Head.{Head}
 use Rattle.sheet.specs.Answers.{headOf}
 use Rattle.sheet.proofs.Reading.{n-is, d-is, c-is, asks-is, head-small}

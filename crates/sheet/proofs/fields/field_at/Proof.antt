@@ -1,7 +1,7 @@
+-- `sheet::fields::field_at` meets its contract. Assumes nothing.
 use borrow.Author.Needs.{needs}
-use mathlib.Core.Path.{_≡_, sym, ap, _∙_}
-use Prim.Native.Nat.{ℕ, min}
-use native.Mathlib.Omega.{arith}
+use mathlib.Core.Path.{sym, ap, _∙_}
+use Prim.Native.Nat.{min}
 use Rattle.rules.specs.Sheet.{fieldAt}
 use Rattle.laws.proofs.Fields.{field-end, field-none}
 use Rattle.sheet.proofs.fields.field_at.Statement.{statement}

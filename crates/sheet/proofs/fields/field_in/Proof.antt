@@ -1,6 +1,7 @@
+-- `sheet::fields::field_in` meets its contract. Assumes nothing.
 use borrow.Author.Needs.{needs}
-use mathlib.Core.Path.{_≡_, sym, _∙_}
-use Prim.Native.Nat.{ℕ, _-_, _/_, _%_, _^_}
+use mathlib.Core.Path.{sym, _∙_}
+use Prim.Native.Nat.{_-_, _/_, _%_, _^_}
 use native.Mathlib.Omega.{arith}
 use Rattle.rules.specs.Bits.{Bytes}
 use Rattle.sheet.proofs.Three.{power-some, cut-small, cut-is, field-in-three}

@@ -1,8 +1,7 @@
 -- `sheet::put::put_asks` meets its contract. The invariant: the asks that are left, put where the loop is, give what all of them give. Assumes nothing.
 use native.Mathlib.Omega.{arith}
-use mathlib.Core.Path.{_≡_, refl, sym, ap, _∙_}
-use Prim.Native.Nat.{ℕ, _+_, _*_, _-_, _^_, _≤_, _<_}
-use lib.ListN.{length, take, drop}
+use Prim.Native.Nat.{_+_, _*_, _-_, _≤_}
+use lib.ListN.{length}
 use Rattle.sheet.proofs.Asking.{Turn, turn-start, turn-end, numbers-left, queries-left, turn-four, turn-fits, turn-values, turn-room, turn-again}
 use Rattle.sheet.proofs.put.put_asks.Statement.{statement}
 use Rattle.sheet.proofs.put.put_asks.Tie as tie

@@ -1,7 +1,7 @@
 -- `sheet::put::put_part` meets its contract. Assumes nothing.
 use borrow.Author.Needs.{needs}
 use native.Mathlib.Omega.{arith}
-use mathlib.Core.Path.{_≡_, refl, sym, ap, _∙_}
+use mathlib.Core.Path.{sym, ap, _∙_}
 use Prim.Native.Nat.{ℕ, _/_, _%_, _<_}
 use lib.ListN.{getD, set}
 use Rattle.sheet.proofs.Putting.{power-some, sum-small, byte-small, byte-is, put-part-some}

@@ -1,6 +1,7 @@
+-- `sheet::read::head` meets its contract. Assumes nothing.
 use borrow.Author.Needs.{needs}
-use mathlib.Core.Path.{_≡_, _∙_}
-use Prim.Native.Nat.{ℕ, _+_}
+use mathlib.Core.Path.{_∙_}
+use Prim.Native.Nat.{_+_}
 use Rattle.rules.specs.Sheet.{points, coords, width, askCount}
 use Rattle.sheet.proofs.read.head.Statement.{statement}
 use Rattle.sheet.proofs.read.head.Tie as tie

@@ -1,6 +1,6 @@
 -- `sheet::refuse::asks_refusal` meets its contract. The invariant: what is left decides. Assumes nothing.
 use native.Mathlib.Omega.{arith}
-use mathlib.Core.Path.{_≡_, refl, sym, ap, _∙_}
+use mathlib.Core.Path.{_≡_, sym, _∙_}
 use Prim.Native.Nat.{_*_, _-_, _≤_}
 use lib.ListN.{drop}
 use Rattle.rules.specs.Refusals.{asksRefusal}
