@@ -1,19 +1,18 @@
 -- Laws of an ask's fields and of the asks together: reading what was written, and writing what was read. Assumes nothing.
-use mathlib.Core.Path.{_≡_, refl, sym, ap, ap₂, _∙_, subst}
-use mathlib.Core.Bool.{Bool, true, false}
-use mathlib.Core.List.{List, [], _∷_, _++_, append-assoc, append-nil}
-use Prim.Native.Nat.{ℕ, zero, suc, _+_, _-_, _*_, _/_, _%_, _^_, _≤_, _<_}
+use mathlib.Core.Path.{_≡_, refl, sym, ap, ap₂, _∙_}
+use mathlib.Core.Bool.{Bool, true}
+use mathlib.Core.List.{List, [], _∷_, _++_, append-assoc}
+use Prim.Native.Nat.{ℕ, zero, suc, _+_, _-_, _*_, _^_, _≤_, _<_}
 use native.Mathlib.Omega.{arith}
 use lib.Dec.{ltb, leb}
 use borrow.Author.Tests.{le-ltb, lt-leb, ltb-false, leb-false}
-use lib.ListN.{length, take, drop, getD, length-append, length-take, length-drop, take-append-drop}
-use lib.Seq.{take-at, drop-at, length-take-le, take-append-le, drop-append-le, drop-drop, take-add}
+use lib.ListN.{length, take, drop, getD, length-append, length-drop, take-append-drop}
+use lib.Seq.{take-at, drop-at, length-take-le, drop-drop, take-add}
 use lib.IntN.{ℤ}
 use Rattle.rules.specs.Bits.{bits, number, allFit, valueBits, values}
 use Rattle.rules.specs.Sheet.{numberBits, askBits, numbersIn, allNumbers, allQueries}
 use Rattle.rules.specs.Outcome.{orElse}
 use Rattle.rules.specs.Refusals.{outside, askRefusal, asksRefusal}
-use Rattle.laws.proofs.Tests.{or-off, or-off-r}
 use Rattle.laws.proofs.Refusals.{else-both, skipped, inside}
 use Rattle.laws.proofs.Bits.{length-bits, number-bits-lt, bits-of-number, taken-small, length-valueBits, length-values, values-back, valueBits-back, values-fit, fit-take, fit-drop, fit-append}
 

@@ -1,16 +1,16 @@
 -- Laws of bits, numbers and two's complement. Assumes nothing.
-use mathlib.Core.Path.{_≡_, refl, sym, ap, ap₂, _∙_, subst}
-use mathlib.Core.Bool.{Bool, true, false, _&&_}
-use mathlib.Core.List.{List, [], _∷_, _++_, append-assoc, append-nil}
+use mathlib.Core.Path.{_≡_, refl, sym, ap, ap₂, _∙_}
+use mathlib.Core.Bool.{Bool, true, false}
+use mathlib.Core.List.{List, [], _∷_, _++_, append-assoc}
 use Prim.Native.Nat.{ℕ, zero, suc, _+_, _-_, _*_, _/_, _%_, _^_, _≤_, _<_}
-use native.Mathlib.Nat.{lt-of-lt-of-le, mod-lt, mod-one, mod-eq-of-lt, zero-lt-suc, mul-add-mod-self-right, add-mul-div-right, div-add-mod', pow-suc, suc-mul, mul-assoc, add-comm}
-use native.Mathlib.Numerals.{one-add, add-one}
+use native.Mathlib.Nat.{lt-of-lt-of-le, mod-lt, mod-one, mod-eq-of-lt, zero-lt-suc, mul-add-mod-self-right, add-mul-div-right, div-add-mod', pow-suc, add-comm}
+use native.Mathlib.Numerals.{one-add}
 use native.Mathlib.Omega.{arith}
-use lib.ListN.{length, take, drop, getD, replicate, length-append, length-replicate, length-take, length-drop, take-append-drop}
-use lib.Seq.{take-at, drop-at, length-take-le, take-add, drop-drop, take-append-le}
-use lib.Arith.{digits-lt, digits-mod, comp-comp}
+use lib.ListN.{length, take, drop, getD, length-append, length-replicate, length-take, length-drop}
+use lib.Seq.{take-at, drop-at, length-take-le, take-add}
+use lib.Arith.{digits-lt, comp-comp}
 use lib.Pow.{pow-pos, pow-mono, pow-add, mod-pow-add, high}
-use lib.Dec.{T, eqb, ltb, lit<}
+use lib.Dec.{eqb, ltb, lit<}
 use borrow.Author.Tests.{lt-ltb, le-ltb, ltb-true}
 use native.Mathlib.Decide.{decLe}
 use native.Mathlib.Nat.{lt-of-not-le}

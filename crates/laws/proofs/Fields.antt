@@ -4,8 +4,8 @@ use mathlib.Core.Bool.{Bool}
 use mathlib.Core.List.{List, [], _∷_, _++_, append-assoc}
 use Prim.Native.Nat.{ℕ, zero, suc, _+_, _-_, _*_, _/_, _%_, _^_, _≤_, _<_, min}
 use native.Mathlib.Omega.{arith}
-use lib.ListN.{length, take, drop, length-append, length-take, length-drop, take-append-drop}
-use lib.Seq.{take-nil, drop-nil, take-append-le, drop-append-le, drop-append-add, drop-drop, length-take-le}
+use lib.ListN.{length, take, drop, length-drop, take-append-drop}
+use lib.Seq.{take-nil, drop-nil, take-append-le, drop-append-le, drop-append-add}
 use lib.Pow.{high, low, field}
 use Rattle.rules.specs.Bits.{bits, number, unpacked}
 use Rattle.rules.specs.Sheet.{fieldAt, points, coords, width, askCount}

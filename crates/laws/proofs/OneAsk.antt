@@ -1,10 +1,10 @@
 -- One ask of a sheet is that part of the sheet's contents. Assumes nothing.
-use mathlib.Core.Path.{_≡_, refl, sym, ap, ap₂, _∙_}
+use mathlib.Core.Path.{_≡_, sym, ap, ap₂, _∙_}
 use mathlib.Core.Bool.{Bool}
-use mathlib.Core.List.{List, [], _∷_, _++_}
-use Prim.Native.Nat.{ℕ, zero, suc, _+_, _*_, _≤_, _<_}
+use mathlib.Core.List.{List, _++_}
+use Prim.Native.Nat.{ℕ, zero, suc, _+_, _*_, _<_}
 use native.Mathlib.Omega.{arith}
-use lib.ListN.{length, take, drop}
+use lib.ListN.{take, drop}
 use lib.Seq.{take-at, drop-at, drop-drop}
 use Rattle.rules.specs.Bits.{values, unpacked}
 use Rattle.rules.specs.Sheet.{Contents, sheet, numbersIn, allNumbers, allQueries, points, coords, width, askCount, askPlace, askNumbers, askQuery, contentsOf}

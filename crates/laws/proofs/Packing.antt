@@ -1,15 +1,15 @@
 -- Laws of packing bits into bytes. Assumes nothing.
-use mathlib.Core.Path.{_≡_, refl, sym, ap, ap₂, _∙_, subst}
-use mathlib.Core.Bool.{Bool, true, false}
-use mathlib.Core.List.{List, [], _∷_, _++_, append-assoc, append-nil}
-use Prim.Native.Nat.{ℕ, zero, suc, _+_, _-_, _*_, _/_, _%_, _^_, _≤_, _<_}
+use mathlib.Core.Path.{_≡_, refl, ap, ap₂, _∙_}
+use mathlib.Core.Bool.{Bool}
+use mathlib.Core.List.{List, [], _∷_, _++_}
+use Prim.Native.Nat.{ℕ, zero, suc, _+_, _-_, _*_, _<_}
 use native.Mathlib.Nat.{lt-of-lt-of-le}
 use native.Mathlib.Omega.{arith}
-use lib.ListN.{length, take, drop, getD, length-append, length-take, length-drop, take-append-drop}
+use lib.ListN.{length, take, drop, length-append, length-take, length-drop, take-append-drop}
 use lib.Seq.{take-at, drop-at, length-take-le, take-append-le, drop-append-le}
 use lib.Pow.{pow-mono}
 use lib.Dec.{lit<}
-use Rattle.rules.specs.Bits.{bit, bits, number, zeros, packed, unpacked, byteCount, filled, bytesOf, Bytes}
+use Rattle.rules.specs.Bits.{bits, number, packed, unpacked, byteCount, filled, bytesOf, Bytes}
 use Rattle.laws.proofs.Bits.{length-bits, number-bits-lt, bits-of-number, number-lt, length-zeros}
 
 pub length-packed : (n : ℕ) (bs : List Bool) → length (packed n bs) ≡ n

@@ -1,18 +1,16 @@
 -- Reading a written sheet gives back its contents, and writing what was read gives back its bytes. Assumes nothing.
-use mathlib.Core.Path.{_≡_, refl, sym, ap, ap₂, _∙_, subst}
-use mathlib.Core.Bool.{Bool, true, false}
-use mathlib.Core.List.{List, [], _∷_, _++_, append-assoc, append-nil}
-use Prim.Native.Nat.{ℕ, zero, suc, _+_, _-_, _*_, _/_, _%_, _^_, _≤_, _<_}
-use native.Mathlib.Nat.{mul-le-mul, le-trans}
+use mathlib.Core.Path.{_≡_, refl, sym, ap, _∙_}
+use mathlib.Core.Bool.{Bool}
+use mathlib.Core.List.{List, _++_, append-assoc}
+use Prim.Native.Nat.{ℕ, _+_, _-_, _*_, _≤_}
 use native.Mathlib.Omega.{arith}
-use lib.ListN.{length, take, drop, getD, length-append, length-take, length-drop, take-append-drop}
-use lib.Seq.{take-all, take-at, drop-at, length-take-le, take-append-le, drop-append-le, drop-drop, take-add}
-use lib.IntN.{ℤ}
-use Rattle.rules.specs.Bits.{bits, number, zeros, valueBits, values, packed, unpacked, byteCount, filled, bytesOf, Bytes}
+use lib.ListN.{length, take, drop, length-append, length-drop, take-append-drop}
+use lib.Seq.{take-all, drop-at, length-take-le, drop-drop, take-add}
+use Rattle.rules.specs.Bits.{number, zeros, valueBits, unpacked, byteCount, filled, bytesOf, Bytes}
 use Rattle.rules.specs.Sheet.{Contents, headBits, askBits, sheetBits, sheet, bitCount, sheetLength, fieldAt, points, coords, width, askCount, required, filling, vectorsOf, askPlace, allNumbers, allQueries, contentsOf}
 use Rattle.rules.specs.Refusals.{sheetRefusal, writerRefusal}
-use Rattle.laws.proofs.Bits.{length-bits, length-valueBits, length-values, values-back, valueBits-back, values-fit, zeros-of-number, length-zeros, number-zeros}
-use Rattle.laws.proofs.Packing.{length-packed, length-unpacked, packed-unpacked, length-filled, length-bytesOf, unpacked-bytesOf}
+use Rattle.laws.proofs.Bits.{length-valueBits, length-values, values-back, valueBits-back, values-fit, zeros-of-number, length-zeros, number-zeros}
+use Rattle.laws.proofs.Packing.{length-unpacked, packed-unpacked, length-bytesOf, unpacked-bytesOf}
 use Rattle.laws.proofs.Fields.{points-small, coords-small, width-small}
 use Rattle.laws.proofs.Writable.{Writable, not-refused, Readable, readable, read-none}
 use Rattle.laws.proofs.Asks.{row-1, row-2, row-3, row-4, row-past, row-again, length-row, less-one, length-askBits, numbers-back, queries-back, asks-again, asks-fit, queries-fit, length-allNumbers, length-allQueries}

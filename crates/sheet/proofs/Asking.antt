@@ -1,8 +1,8 @@
 -- Values and asks put one after the other: what is left, put where the loop is, gives what all of them give. Assumes nothing.
 use mathlib.Core.Path.{_≡_, refl, sym, ap, _∙_}
-use mathlib.Core.Bool.{Bool, true}
+use mathlib.Core.Bool.{true}
 use mathlib.Core.List.{List, [], _∷_, _++_, append-assoc}
-use Prim.Native.Nat.{ℕ, zero, suc, _+_, _-_, _*_, _/_, _^_, _≤_, _<_}
+use Prim.Native.Nat.{ℕ, suc, _+_, _-_, _*_, _^_, _≤_, _<_}
 use native.Mathlib.Nat.{mul-le-mul-right, lt-of-lt-of-le}
 use native.Mathlib.Numerals.{add-one}
 use native.Mathlib.Omega.{arith}
@@ -18,7 +18,7 @@ use Rattle.rules.specs.Bits.{bits, fits, allFit, twos, valueBits}
 use Rattle.rules.specs.Sheet.{numberBits, askBits}
 use Rattle.rules.specs.Refusals.{askRefusal, asksRefusal}
 use Rattle.laws.proofs.Bits.{bits-above, length-bits, length-valueBits, valueBits-cons, fit-take, fit-drop, fit-at}
-use Rattle.laws.proofs.Asks.{AskOk, ask-ok, asks-both, length-numberBits, askBits-suc}
+use Rattle.laws.proofs.Asks.{asks-both, length-numberBits, askBits-suc}
 use Rattle.sheet.specs.Put.{putBits}
 use Rattle.sheet.proofs.Putting.{putBits-none, putBits-append, put-then}
 

@@ -2,16 +2,15 @@
 use mathlib.Core.Path.{_≡_, refl, sym, ap, _∙_}
 use mathlib.Core.Bool.{Bool, true, false, not, cond, _&&_, _||_, false≢true}
 use mathlib.Core.List.{List, [], _∷_}
-use Prim.Native.Nat.{ℕ, zero, suc, _+_, _-_, _*_, _/_, _≤_, _<_}
-use native.Mathlib.Nat.{mul-le-mul, mul-le-mul-right}
+use Prim.Native.Nat.{ℕ, suc, _+_, _-_, _*_, _/_, _≤_, _<_}
+use native.Mathlib.Nat.{mul-le-mul}
 use native.Mathlib.Omega.{arith}
 use lib.ListN.{length, drop, getD}
 use lib.Seq.{getD-drop, drop-drop}
-use lib.Dec.{ltb, leb, eqb}
-use lib.IntN.{ℤ}
+use lib.Dec.{ltb, leb}
 use borrow.Author.Tests.{ltb-false, lt-ltb, le-ltb, le-leb, lt-leb, eq-eqb, ne-eqb}
 use Rattle.rules.specs.Bits.{allFit, byteCount}
-use Rattle.rules.specs.Sheet.{bitCount, sheetLength}
+use Rattle.rules.specs.Sheet.{Contents, bitCount, sheetLength}
 use Rattle.rules.specs.Outcome.{firstOf, orElse}
 use Rattle.rules.specs.Refusals.{outside, differ, refuse13, refuse14, askRefusal, asksRefusal, writerRefusal}
 use Rattle.laws.proofs.Tests.{or-off}
@@ -29,6 +28,12 @@ miss true k m x e f = absurd (false≢true (sym e))
 miss false k m x e f = f
 
 -- ---- the limits and the lengths
+
+pub product-small : (n d : ℕ) → outside 1 128 n ≡ false → outside 1 64 d ≡ false → n * d ≤ 8192
+product-small n d f g = mul-le-mul (inside 1 128 n f .1) (inside 1 64 d g .1)
+
+pub asks-small : (asks numbers d : ℕ) → ltb 127 asks || differ numbers (4 * asks) ≡ false → outside 1 64 d ≡ false → asks * d ≤ 8128
+asks-small asks numbers d f g = mul-le-mul (ltb-false 127 asks (or-off (ltb 127 asks) (differ numbers (4 * asks)) f)) (inside 1 64 d g .1)
 
 module _ (n d c asks vectors numbers queries : ℕ) where
   abbrev T₁ : Bool
@@ -63,9 +68,6 @@ module _ (n d c asks vectors numbers queries : ℕ) where
       pub shape-11 : T₃ ≡ true → 11 ≡ cond T₁ 1 after-1
       shape-11 e = miss T₁ 1 11 _ f₁ (miss T₂ 2 11 _ f₂ (hit T₃ 11 _ e))
 
-      pub product-small : n * d ≤ 8192
-      product-small = mul-le-mul (inside 1 128 n f₁ .1) (inside 1 64 d f₂ .1)
-
       module _ (f₃ : T₃ ≡ false) where
         past : (k : ℕ) → k ≡ cond T₄ 12 (cond T₅ 3 (cond T₆ 5 0)) → k ≡ cond T₁ 1 after-1
         past k e = miss T₁ 1 k _ f₁ (miss T₂ 2 k _ f₂ (miss T₃ 11 k _ f₃ e))
@@ -76,9 +78,6 @@ module _ (n d c asks vectors numbers queries : ℕ) where
         module _ (f₄ : T₄ ≡ false) where
           pub shape-3 : (vectors ≡ n * d → ⊥) → 3 ≡ cond T₁ 1 after-1
           shape-3 e = past 3 (miss T₄ 12 3 _ f₄ (hit T₅ 3 _ (ap not (ne-eqb vectors (n * d) e))))
-
-          pub asks-small : asks * d ≤ 8128
-          asks-small = mul-le-mul (ltb-false 127 asks (or-off (ltb 127 asks) (differ numbers (4 * asks)) f₄)) (inside 1 64 d f₂ .1)
 
           module _ (f₅ : vectors ≡ n * d) where
             off₅ : T₅ ≡ false
@@ -158,17 +157,20 @@ asks-start asks ns = let e : asks - 0 ≡ asks = omega arith in rw e
 
 -- ---- the whole order
 
-module _ (n d c asks : ℕ) (vs : List ℤ) (ns : List ℕ) (qs : List ℤ) (output : ℕ) where
+module _ (k : Contents) (output : ℕ) where
   abbrev shape : ℕ
-  shape = shapeRefusal n d c asks (length vs) (length ns) (length qs)
+  shape = shapeRefusal (k .n) (k .d) (k .c) (k .asks) (length (k .vectors)) (length (k .numbers)) (length (k .queries))
+
+  abbrev needed : ℕ
+  needed = sheetLength (k .n) (k .d) (k .c) (k .asks)
 
   abbrev last : ℕ
-  last = firstOf (refuse13 c vs qs ∷ refuse14 (sheetLength n d c asks) output ∷ [])
+  last = firstOf (refuse13 (k .c) (k .vectors) (k .queries) ∷ refuse14 needed output ∷ [])
 
   abbrev due : ℕ
-  due = writerRefusal n d c asks vs ns qs output
+  due = writerRefusal (k .n) (k .d) (k .c) (k .asks) (k .vectors) (k .numbers) (k .queries) output
 
-  order : due ≡ orElse shape (orElse (asksRefusal asks ns) last)
+  order : due ≡ orElse shape (orElse (asksRefusal (k .asks) (k .numbers)) last)
   unfolding writerRefusal shapeRefusal
   order = refl
 
@@ -176,46 +178,46 @@ module _ (n d c asks : ℕ) (vs : List ℤ) (ns : List ℕ) (qs : List ℤ) (out
   by-shape r e f = e ∙ sym (order ∙ else-some (λ z. f (e ∙ z)) _)
 
   module _ (s : ℕ) (es : s ≡ shape) (zs : s ≡ 0) where
-    pub shape-ok : Shaped n d c asks (length vs) (length ns) (length qs)
-    shape-ok = shaped n d c asks (length vs) (length ns) (length qs) (sym es ∙ zs)
+    pub shape-ok : Shaped (k .n) (k .d) (k .c) (k .asks) (length (k .vectors)) (length (k .numbers)) (length (k .queries))
+    shape-ok = shaped (k .n) (k .d) (k .c) (k .asks) (length (k .vectors)) (length (k .numbers)) (length (k .queries)) (sym es ∙ zs)
 
-    rest : due ≡ orElse (asksRefusal asks ns) last
+    rest : due ≡ orElse (asksRefusal (k .asks) (k .numbers)) last
     rest = order ∙ else-none (sym es ∙ zs) _
 
-    pub by-asks : (r : ℕ) → r ≡ asksRefusal asks ns → (r ≡ 0 → ⊥) → r ≡ due
+    pub by-asks : (r : ℕ) → r ≡ asksRefusal (k .asks) (k .numbers) → (r ≡ 0 → ⊥) → r ≡ due
     by-asks r e f = e ∙ sym (rest ∙ else-some (λ z. f (e ∙ z)) _)
 
-    module _ (a : ℕ) (ea : a ≡ asksRefusal asks ns) (za : a ≡ 0) where
+    module _ (a : ℕ) (ea : a ≡ asksRefusal (k .asks) (k .numbers)) (za : a ≡ 0) where
       then-last : due ≡ last
       then-last = rest ∙ else-none (sym ea ∙ za) _
 
       abbrev fit : Bool
-      fit = allFit c vs && allFit c qs
+      fit = allFit (k .c) (k .vectors) && allFit (k .c) (k .queries)
 
       misfit : fit ≡ false → 13 ≡ due
       misfit e = hit (not fit) 13 _ (ap not e) ∙ sym then-last
 
-      pub by-vectors : allFit c vs ≡ false → 13 ≡ due
+      pub by-vectors : allFit (k .c) (k .vectors) ≡ false → 13 ≡ due
       by-vectors e = misfit (rw e)
 
-      module _ (fv : allFit c vs ≡ true) where
-        pub by-queries : allFit c qs ≡ false → 13 ≡ due
+      module _ (fv : allFit (k .c) (k .vectors) ≡ true) where
+        pub by-queries : allFit (k .c) (k .queries) ≡ false → 13 ≡ due
         by-queries e = misfit (rw (fv, e))
 
-        module _ (fq : allFit c qs ≡ true) (bits : ℕ) (eb : bits ≡ bitCount n d c asks) where
+        module _ (fq : allFit (k .c) (k .queries) ≡ true) (bits : ℕ) (eb : bits ≡ bitCount (k .n) (k .d) (k .c) (k .asks)) where
           all-fit : not fit ≡ false
           all-fit = rw (fv, fq)
 
-          bytes-are : (bits + 7) / 8 ≡ sheetLength n d c asks
+          bytes-are : (bits + 7) / 8 ≡ needed
           unfolding sheetLength byteCount
           bytes-are = ap (λ (x : ℕ). (x + 7) / 8) eb
 
           pub by-room : output < (bits + 7) / 8 → 14 ≡ due
           by-room h =
-              miss (not fit) 13 14 _ all-fit (hit (ltb output (sheetLength n d c asks)) 14 _ (lt-ltb output (sheetLength n d c asks) (omega (arith, bytes-are))))
+              miss (not fit) 13 14 _ all-fit (hit (ltb output needed) 14 _ (lt-ltb output needed (omega (arith, bytes-are))))
               ∙ sym then-last
 
           pub by-none : (bits + 7) / 8 ≤ output → 0 ≡ due
           by-none h =
-              miss (not fit) 13 0 _ all-fit (miss (ltb output (sheetLength n d c asks)) 14 0 _ (le-ltb output (sheetLength n d c asks) (omega (arith, bytes-are))) refl)
+              miss (not fit) 13 0 _ all-fit (miss (ltb output needed) 14 0 _ (le-ltb output needed (omega (arith, bytes-are))) refl)
               ∙ sym then-last

@@ -1,5 +1,5 @@
 -- The definitions that turn an answer into document 01's terms lose nothing: answers that say the same are the same. Assumes nothing.
-use mathlib.Core.Path.{_≡_, refl, ap, _∙_}
+use mathlib.Core.Path.{_≡_, ap}
 use Prim.Native.Nat.{ℕ}
 use native.Mathlib.Omega.{arith}
 use Rattle.rules.specs.Outcome.{Outcome, refused, gives}

@@ -1,28 +1,24 @@
 -- Reading a written sheet gives back its contents, and writing what was read gives back its bytes: of what the entries answer and leave.
 -- Assumes nothing.
 use mathlib.Core.Path.{_≡_, refl, sym, ap, ap₂, _∙_, subst}
-use mathlib.Core.Logic.{_≢_}
 use mathlib.Core.List.{List, [], _∷_, _++_}
 use Prim.Native.Nat.{ℕ, zero, suc, _+_, _-_, _*_, _≤_, _<_}
-use native.Mathlib.Nat.{mul-le-mul-right}
 use native.Mathlib.Omega.{arith}
-use lib.ListN.{length, take, drop, getD, replicate, length-replicate, length-drop, take-append-drop}
+use lib.ListN.{length, take, drop, replicate, length-replicate, length-drop, take-append-drop}
 use lib.Seq.{take-append-seam, take-all, drop-drop, length-take-le}
-use lib.Dec.{leb, eqb}
 use lib.IntN.{ℤ, pos}
 use borrow.Author.Tests.{lt-leb, eq-eqb}
 use Rattle.rules.specs.Bits.{Bytes}
-use Rattle.rules.specs.Sheet.{Contents, sheet, points, coords, width, askCount, vectorsOf, askNumbers, askQuery, numbersIn, contentsOf}
-use Rattle.rules.specs.Outcome.{Outcome, gives, refused, outcome, after, over}
-use Rattle.rules.specs.Refusals.{sheetRefusal, vectorsRefusal, oneAskRefusal, writerRefusal}
-use Rattle.rules.specs.Entries.{Header, headerAnswer, vectorsAfter, Numbers, numbersOf, askAnswer, queryAfter, writeRefused, writeAnswer, outputAfter}
+use Rattle.rules.specs.Sheet.{Contents, sheet, points, coords, width, askCount, vectorsOf, askNumbers, askQuery, contentsOf}
+use Rattle.rules.specs.Outcome.{Outcome, gives, outcome, over}
+use Rattle.rules.specs.Refusals.{sheetRefusal, vectorsRefusal, oneAskRefusal}
+use Rattle.rules.specs.Entries.{Header, headerAnswer, vectorsAfter, numbersOf, askAnswer, queryAfter, writeRefused, writeAnswer, outputAfter}
 use Rattle.laws.proofs.Refusals.{else-none, outcome-gives, after-new}
-use Rattle.laws.proofs.Asks.{four, length-numbersIn}
-use Rattle.laws.proofs.Bits.{length-values}
+use Rattle.laws.proofs.Asks.{four}
 use Rattle.laws.proofs.Writable.{Writable, writable}
-use Rattle.laws.proofs.RoundTrip.{read-back, sheet-read, sheet-length, write-back, read-writable, write-again}
+use Rattle.laws.proofs.RoundTrip.{read-back, sheet-read, write-back, read-writable, write-again}
 use Rattle.laws.proofs.OneAsk.{one-numbers, one-query}
-use Rattle.sheet.specs.AsRead.{AsRead, numbersAt, queryAt}
+use Rattle.sheet.specs.AsRead.{AsRead, numbersAt}
 
 -- an answer that gives something was not refused, and gives that
 module _ {A : Type 0} where

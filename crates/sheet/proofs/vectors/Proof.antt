@@ -1,19 +1,15 @@
 -- `sheet::vectors` meets its contract. Assumes nothing.
-use borrow.Author.Needs.{needs}
 use mathlib.Core.Path.{sym, _∙_}
+use borrow.Author.Needs.{needs}
 use lib.ListN.{length}
-use Rattle.rules.specs.Sheet.{vectorsOf}
-use Rattle.rules.specs.Refusals.{vectorsRefusal}
 use Rattle.rules.specs.Entries.{vectorsAfter}
-use Rattle.sheet.proofs.Reading.{head-small}
-use Rattle.sheet.proofs.Entered.{left-old, left-new, vectors-small, vectors-are}
+use Rattle.sheet.proofs.Entered.{left-old, left-new, Vectors, vectors-small, vectors-are}
 use Rattle.sheet.proofs.vectors.Statement.{statement}
 use Rattle.sheet.proofs.vectors.Tie as tie
-use Rattle.sheet.proofs.vectors.Reads as reads
-use Rattle.sheet.proofs.vectors.Lts as lts
-use Rattle.sheet.proofs.read.head.Reads as head-reads
-use Rattle.sheet.proofs.read.read_values.Reads as read-values-reads
-use Rattle.sheet.proofs.read.vectors_refusal.Reads as vectors-refusal-reads
+
+-- where the header was read: nothing is refused
+known : (c : tie.After-head) → Vectors (c .before .before .before .before .args .sheet .now) (c .head .result) (length (c .before .before .before .before .args .buffer .now))
+known c = record { head = c .head .ensures; free = sym (c .before .before .vectors-refusal .ensures) ∙ c .before .if1 .left }
 
 vectors-refusal-requires : tie.Need-vectors-refusal-requires
 vectors-refusal-requires c κs = search needs
@@ -21,27 +17,25 @@ vectors-refusal-requires c κs = search needs
 returns : tie.Need-returns
 unfolding vectorsAfter
 returns c =
-    (c .before .vectors-refusal .ensures, left-old (c .before .vectors-refusal .result) (vectorsRefusal (c .before .before .before .args .sheet .now) (length (c .before .before .before .args .buffer .now))) (c .before .vectors-refusal .ensures) (c .if1 .taken) (c .before .before .before .args .buffer .now) (vectorsOf (c .before .before .before .args .sheet .now)))
+    let refusal = c .before .vectors-refusal .ensures in
+    (refusal, left-old refusal (c .if1 .taken) _ _)
 
 head-requires : tie.Need-head-requires
 head-requires c κs = search needs
 
 read-values-requires : tie.Need-read-values-requires
-read-values-requires c κs =
-    let s = head-small (c .before .before .before .before .before .args .sheet .now) (c .before .head .result) (c .before .head .ensures) in
-    (s .2, s .3, vectors-small (c .before .before .before .before .before .args .sheet .now) (c .before .head .result) (c .before .head .ensures) (length (c .before .before .before .before .before .args .buffer .now)) (c .before .before .before .vectors-refusal .result) (c .before .before .before .vectors-refusal .ensures) (c .before .before .if1 .left))
+read-values-requires c κs = vectors-small (known (c .before))
 
 same-length : tie.Need-same-length
 same-length c = search needs
 
 returns-2 : tie.Need-returns-2
 unfolding vectorsAfter
-returns-2 c = (
-  sym (c .before .before .before .before .if1 .left) ∙ c .before .before .before .before .before .vectors-refusal .ensures,
-  c .before .read-values .ensures
-      ∙ vectors-are (c .before .before .before .before .before .before .before .args .sheet .now) (c .before .before .before .head .result) (c .before .before .before .head .ensures) (length (c .before .before .before .before .before .before .before .args .buffer .now)) (c .before .before .before .before .before .vectors-refusal .result) (c .before .before .before .before .before .vectors-refusal .ensures) (c .before .before .before .before .if1 .left)
-      ∙ left-new (c .before .before .before .before .before .vectors-refusal .result) (vectorsRefusal (c .before .before .before .before .before .before .before .args .sheet .now) (length (c .before .before .before .before .before .before .before .args .buffer .now))) (c .before .before .before .before .before .vectors-refusal .ensures) (c .before .before .before .before .if1 .left) (c .before .before .before .before .before .before .before .args .buffer .now) (vectorsOf (c .before .before .before .before .before .before .before .args .sheet .now)),
-)
+returns-2 c =
+    let head = c .before .before .before in
+    let refusal = head .before .before .vectors-refusal .ensures in
+    let none = head .before .if1 .left in
+    (sym none ∙ refusal, c .before .read-values .ensures ∙ vectors-are (known head) ∙ left-new refusal none _ _)
 
 pub vectors-spec : {M : Type 1} → statement M
 vectors-spec =

@@ -1,11 +1,10 @@
+-- `sheet::fields::byte_at` meets its contract. Assumes nothing.
 use borrow.Author.Needs.{needs}
 use mathlib.Core.Path.{refl, sym}
 use native.Mathlib.Omega.{arith}
 use lib.ListN.{List·getD-eq-default}
 use Rattle.sheet.proofs.fields.byte_at.Statement.{statement}
 use Rattle.sheet.proofs.fields.byte_at.Tie as tie
-use Rattle.sheet.proofs.fields.byte_at.Reads as reads
-use Rattle.sheet.proofs.fields.byte_at.Lts as lts
 
 -- src/fields.rt:36:9
 shared-slice-read-result : tie.Need-shared-slice-read-result

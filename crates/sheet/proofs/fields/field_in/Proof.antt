@@ -1,14 +1,12 @@
+-- `sheet::fields::field_in` meets its contract. Assumes nothing.
 use borrow.Author.Needs.{needs}
-use mathlib.Core.Path.{_≡_, sym, _∙_}
-use Prim.Native.Nat.{ℕ, _-_, _/_, _%_, _^_}
+use mathlib.Core.Path.{sym, _∙_}
+use Prim.Native.Nat.{_-_, _/_, _%_, _^_}
 use native.Mathlib.Omega.{arith}
 use Rattle.rules.specs.Bits.{Bytes}
 use Rattle.sheet.proofs.Three.{power-some, cut-small, cut-is, field-in-three}
 use Rattle.sheet.proofs.fields.field_in.Statement.{statement}
 use Rattle.sheet.proofs.fields.field_in.Tie as tie
-use Rattle.sheet.proofs.fields.field_in.Reads as reads
-use Rattle.sheet.proofs.fields.field_in.Lts as lts
-use Rattle.sheet.proofs.fields.three_at.Reads as three-at-reads
 
 -- src/fields.rt:57:9
 three-at-requires : tie.Need-three-at-requires
@@ -45,9 +43,10 @@ rem-result c = power-some (c .before .before .args .bits) (c .before .before .pr
 -- src/fields.rt:58:5
 cast-result-3 : tie.Need-cast-result-3
 cast-result-3 c =
-    let w = c .before .before .args .bits in
-    let x = c .three-at .result / 2 ^ (24 - c .before .before .args .at % 8 - w) in
-    record { fits = cut-small x w (c .before .before .pre .1) }
+    let s = c .before .before in
+    let w = s .args .bits in
+    let x = c .three-at .result / 2 ^ (24 - s .args .at % 8 - w) in
+    record { fits = cut-small x w (s .pre .1) }
 
 -- src/fields.rt:51:1
 returns : tie.Need-returns

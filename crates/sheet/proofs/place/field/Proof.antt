@@ -1,6 +1,6 @@
--- `sheet::place::field` meets its contract: a walk of its MIR, by hand. The struct is taken apart, and `field_at` is called on the slice and the numbers. All that the proof knows of `field_at` is that it meets its contract.
--- The struct is Copy: what it owns is had twice, one copy is kept whole for the exit, and of the other what sheet owns goes to the callee, beside the lifetime's token, which comes back.
--- Assumes nothing.
+-- `sheet::place::field` meets its contract, by a walk of its MIR. Of `field_at`, which is called on the slice and the numbers, only the contract is used.
+-- A place is Copy: one copy of what it owns stays with the parameter, and out of the other the slice goes to the callee, with the lifetime's token, which
+-- comes back. Assumes nothing.
 use mathlib.Core.Path.{_≡_, refl}
 use Prim.Native.Nat.{ℕ, _<_, _^_, min}
 use mathlib.Core.List.{[], _∷_}

@@ -1,6 +1,6 @@
--- `sheet::place::field_from` meets its contract: a walk of its MIR, by hand. A `Place` that one call returns is held in a local and passed to the next, twice. All that the proof knows of `open`, `past` and `field` is that each meets its contract.
--- The machine value that a call returns is stored and passed on as it is. In a local of a body MIR erases the lifetime of the struct's type, so the value is shown to have the type at `erased`: what the struct owns does not say the lifetime's name.
--- Assumes nothing.
+-- `sheet::place::field_from` meets its contract, by a walk of its MIR: a place is opened, moved and read, and each call's result is the next one's
+-- argument. Of `open`, `past` and `field` only the contracts are used. A local of a body has its struct's lifetime erased, so that what a call returns
+-- is shown to have the erased type before it is stored. Assumes nothing.
 use mathlib.Core.Path.{_≡_, refl, ap, _∙_}
 use Prim.Native.Nat.{ℕ, _<_, _^_, min}
 use mathlib.Core.List.{List, [], _∷_}

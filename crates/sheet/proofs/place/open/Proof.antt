@@ -1,6 +1,5 @@
--- `sheet::place::open` meets its contract: a walk of its MIR, by hand. A `Place` is made of the slice passed and 0, in the result's local.
--- A `&[u8]` is Copy, so what it owns is had twice: once for sheet at exit, and once inside the result, beside the facts of next.
--- Assumes nothing.
+-- `sheet::place::open` meets its contract, by a walk of its MIR. The result is put together from the slice that was passed and 0.
+-- A `&[u8]` is Copy: what it owns is taken twice, once for the parameter at exit and once for the place. Assumes nothing.
 use mathlib.Core.Path.{refl}
 use Prim.Native.Nat.{ℕ}
 use mathlib.Core.List.{List, [], _∷_}

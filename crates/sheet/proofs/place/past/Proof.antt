@@ -1,5 +1,5 @@
--- `sheet::place::past` meets its contract: a walk of its MIR, by hand. `past_at` is called on the numbers, and a struct is made anew of the slice that the one passed holds and the number that it returned. All that the proof knows of `past_at` is that it meets its contract.
--- The struct is Copy: what it owns is had twice, one copy is kept whole for the exit, and the other, with the facts of the new number in the place of next's, is what the result owns.
+-- `sheet::place::past` meets its contract, by a walk of its MIR. Of `past_at`, which is called on the two numbers, only the contract is used.
+-- A place is Copy: one copy of what it owns stays with the parameter, and the other, with the new number in the place of the old, is the result's.
 -- Assumes nothing.
 use mathlib.Core.Path.{_≡_, refl, ap}
 use Prim.Native.Nat.{ℕ, _<_, _^_}

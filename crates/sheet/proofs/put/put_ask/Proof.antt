@@ -5,11 +5,6 @@ use Rattle.laws.proofs.Asks.{ask-ok}
 use Rattle.sheet.proofs.Asking.{ask-put}
 use Rattle.sheet.proofs.put.put_ask.Statement.{statement}
 use Rattle.sheet.proofs.put.put_ask.Tie as tie
-use Rattle.sheet.proofs.put.put_ask.Reads as reads
-use Rattle.sheet.proofs.put.put_ask.Lts as lts
-use Rattle.sheet.proofs.put.put_row.Reads as put-row-reads
-use Rattle.sheet.proofs.put.put_values.Reads as put-values-reads
-use Rattle.sheet.proofs.put.wide.Reads as wide-reads
 
 shared-slice-read-wide : tie.Need-shared-slice-read-wide
 shared-slice-read-wide c = search needs

@@ -1,14 +1,10 @@
 -- `sheet::put::put_asks` meets its contract. The invariant: the asks that are left, put where the loop is, give what all of them give. Assumes nothing.
 use native.Mathlib.Omega.{arith}
-use mathlib.Core.Path.{_≡_, refl, sym, ap, _∙_}
-use Prim.Native.Nat.{ℕ, _+_, _*_, _-_, _^_, _≤_, _<_}
-use lib.ListN.{length, take, drop}
+use Prim.Native.Nat.{_+_, _*_, _-_, _≤_}
+use lib.ListN.{length}
 use Rattle.sheet.proofs.Asking.{Turn, turn-start, turn-end, numbers-left, queries-left, turn-four, turn-fits, turn-values, turn-room, turn-again}
 use Rattle.sheet.proofs.put.put_asks.Statement.{statement}
 use Rattle.sheet.proofs.put.put_asks.Tie as tie
-use Rattle.sheet.proofs.put.put_asks.Reads as reads
-use Rattle.sheet.proofs.put.put_asks.Lts as lts
-use Rattle.sheet.proofs.put.put_ask.Reads as put-ask-reads
 
 abbrev Inv-loop : tie.InvT-loop
 Inv-loop out₀ at d c asks ns qs i₀ j₀ q₀ p₀ out i j q p = Turn d c asks ns qs at out₀ i j q p out

@@ -9,10 +9,6 @@ use Rattle.sheet.specs.Put.{putBits}
 use Rattle.sheet.proofs.Putting.{field-step, field-done}
 use Rattle.sheet.proofs.put.put_field.Statement.{statement}
 use Rattle.sheet.proofs.put.put_field.Tie as tie
-use Rattle.sheet.proofs.put.put_field.Reads as reads
-use Rattle.sheet.proofs.put.put_field.Lts as lts
-use Rattle.sheet.proofs.put.part.Reads as part-reads
-use Rattle.sheet.proofs.put.put_part.Reads as put-part-reads
 
 abbrev Inv-loop : tie.InvT-loop
 Inv-loop out₀ at w v k₀ p₀ out k p =

@@ -1,14 +1,12 @@
 -- `sheet::put::put_part` meets its contract. Assumes nothing.
 use borrow.Author.Needs.{needs}
 use native.Mathlib.Omega.{arith}
-use mathlib.Core.Path.{_≡_, refl, sym, ap, _∙_}
+use mathlib.Core.Path.{sym, ap, _∙_}
 use Prim.Native.Nat.{ℕ, _/_, _%_, _<_}
 use lib.ListN.{getD, set}
 use Rattle.sheet.proofs.Putting.{power-some, sum-small, byte-small, byte-is, put-part-some}
 use Rattle.sheet.proofs.put.put_part.Statement.{statement}
 use Rattle.sheet.proofs.put.put_part.Tie as tie
-use Rattle.sheet.proofs.put.put_part.Reads as reads
-use Rattle.sheet.proofs.put.put_part.Lts as lts
 
 x-lt : (c : tie.After-slice-known) → getD (c .before .args .out .now) (c .before .args .at / 8) 0 < 256
 x-lt c = omega (arith, c .slice-known .given (c .before .args .at / 8))
@@ -41,7 +39,9 @@ shl-out : tie.Need-shl-out
 shl-out c = search needs
 
 rem-out : tie.Need-rem-out
-rem-out c = power-some (getD (c .before .args .out .now) (c .before .args .at / 8) 0) (c .before .args .at % 8) (c .before .args .k) (c .before .args .v) (x-lt c) (c .before .pre .0) (c .before .pre .1)
+rem-out c =
+    let s = c .before in
+    power-some (getD (s .args .out .now) (s .args .at / 8) 0) (s .args .at % 8) (s .args .k) (s .args .v) (x-lt c) (s .pre .0) (s .pre .1)
 
 add-out : tie.Need-add-out
 add-out c = omega (arith, sum-small (getD (c .before .args .out .now) (c .before .args .at / 8) 0) (c .before .args .at % 8) (c .before .args .k) (c .before .args .v) (x-lt c) (c .before .pre .0) (c .before .pre .1))
@@ -59,7 +59,9 @@ shl-out-2 : tie.Need-shl-out-2
 shl-out-2 c = search needs
 
 cast-out-3 : tie.Need-cast-out-3
-cast-out-3 c = record { fits = byte-small (getD (c .before .args .out .now) (c .before .args .at / 8) 0) (c .before .args .at % 8) (c .before .args .k) (c .before .args .v) (x-lt c) (c .before .pre .0) (c .before .pre .1) }
+cast-out-3 c =
+    let s = c .before in
+    record { fits = byte-small (getD (s .args .out .now) (s .args .at / 8) 0) (s .args .at % 8) (s .args .k) (s .args .v) (x-lt c) (s .pre .0) (s .pre .1) }
 
 slice-write-out : tie.Need-slice-write-out
 slice-write-out c = search needs
@@ -69,10 +71,11 @@ same-length c = search needs
 
 returns : tie.Need-returns
 returns c =
-    let a = c .before .args in
+    let s = c .before in
+    let a = s .args in
     let j = a .at / 8 in
-    ap (λ (y : ℕ). set (a .out .now) j y) (byte-is (getD (c .before .args .out .now) (c .before .args .at / 8) 0) (c .before .args .at % 8) (c .before .args .k) (c .before .args .v) (x-lt c) (c .before .pre .0) (c .before .pre .1))
-    ∙ sym (put-part-some (a .out .now) (a .at) (a .k) (a .v) (c .before .pre .0) (c .before .pre .1) (c .before .pre .2))
+    ap (λ (y : ℕ). set (a .out .now) j y) (byte-is (getD (s .args .out .now) (s .args .at / 8) 0) (s .args .at % 8) (s .args .k) (s .args .v) (x-lt c) (s .pre .0) (s .pre .1))
+    ∙ sym (put-part-some (a .out .now) (a .at) (a .k) (a .v) (s .pre .0) (s .pre .1) (s .pre .2))
 
 pub put-part-spec : {M : Type 1} → statement M
 put-part-spec =

@@ -4,9 +4,6 @@ use native.Mathlib.Omega.{arith}
 use Rattle.sheet.proofs.Putting.{put-after}
 use Rattle.sheet.proofs.put.put_row.Statement.{statement}
 use Rattle.sheet.proofs.put.put_row.Tie as tie
-use Rattle.sheet.proofs.put.put_row.Reads as reads
-use Rattle.sheet.proofs.put.put_row.Lts as lts
-use Rattle.sheet.proofs.put.put_field.Reads as put-field-reads
 
 put-field-requires : tie.Need-put-field-requires
 put-field-requires c κs = search needs

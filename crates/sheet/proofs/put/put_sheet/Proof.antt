@@ -8,11 +8,6 @@ use Rattle.laws.proofs.Writable.{Writable, writable}
 use Rattle.sheet.proofs.Whole.{enough, small, done}
 use Rattle.sheet.proofs.put.put_sheet.Statement.{statement}
 use Rattle.sheet.proofs.put.put_sheet.Tie as tie
-use Rattle.sheet.proofs.put.put_sheet.Reads as reads
-use Rattle.sheet.proofs.put.put_sheet.Lts as lts
-use Rattle.sheet.proofs.put.put_asks.Reads as put-asks-reads
-use Rattle.sheet.proofs.put.put_row.Reads as put-row-reads
-use Rattle.sheet.proofs.put.put_values.Reads as put-values-reads
 
 -- what is to be written, and what is known of it
 abbrev held : tie.Start → Contents

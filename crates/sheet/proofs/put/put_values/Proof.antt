@@ -8,10 +8,6 @@ use borrow.Author.Needs.{needs}
 use Rattle.sheet.proofs.Asking.{putting, putting-done, putting-all, putting-more}
 use Rattle.sheet.proofs.put.put_values.Statement.{statement}
 use Rattle.sheet.proofs.put.put_values.Tie as tie
-use Rattle.sheet.proofs.put.put_values.Reads as reads
-use Rattle.sheet.proofs.put.put_values.Lts as lts
-use Rattle.sheet.proofs.put.put_field.Reads as put-field-reads
-use Rattle.sheet.proofs.values.code.Reads as code-reads
 
 abbrev Inv-loop : tie.InvT-loop
 Inv-loop out₀ at c zs i₀ p₀ out i p =

@@ -5,8 +5,6 @@ use Rattle.rules.specs.Sheet.{bitCount}
 use Rattle.laws.proofs.Writable.{few-products, few-bits}
 use Rattle.sheet.proofs.read.bit_count.Statement.{statement}
 use Rattle.sheet.proofs.read.bit_count.Tie as tie
-use Rattle.sheet.proofs.read.bit_count.Reads as reads
-use Rattle.sheet.proofs.read.bit_count.Lts as lts
 
 mul-result : tie.Need-mul-result
 mul-result c = omega (arith, few-products (c .args .n) (c .args .d) (c .args .c) (c .args .asks) (c .pre .0) (c .pre .1) (c .pre .2) (c .pre .3))

@@ -1,13 +1,10 @@
+-- `sheet::read::head` meets its contract. Assumes nothing.
 use borrow.Author.Needs.{needs}
-use mathlib.Core.Path.{_≡_, _∙_}
-use Prim.Native.Nat.{ℕ, _+_}
+use mathlib.Core.Path.{_∙_}
+use Prim.Native.Nat.{_+_}
 use Rattle.rules.specs.Sheet.{points, coords, width, askCount}
 use Rattle.sheet.proofs.read.head.Statement.{statement}
 use Rattle.sheet.proofs.read.head.Tie as tie
-use Rattle.sheet.proofs.read.head.Reads as reads
-use Rattle.sheet.proofs.read.head.Lts as lts
-use Rattle.sheet.proofs.place.field_from.Reads as field-from-reads
-use Rattle.sheet.proofs.read.wide.Reads as wide-reads
 
 -- src/read.rt:24:17
 field-from-requires : tie.Need-field-from-requires
@@ -57,11 +54,17 @@ wide-requires-4 c κs = search needs
 returns : tie.Need-returns
 unfolding points coords width askCount
 returns c =
+    let s = c .before .before .before .before .before .before in
+    let field-from2 = c .before .before .before .before .before .field-from2 in
+    let wide2 = c .before .before .before .before .wide2 in
+    let field-from3 = c .before .before .before .field-from3 in
+    let wide3 = c .before .before .wide3 in
+    let field-from4 = c .before .field-from4 in
     let p = c .before .before .before .before .before .before in
     let e₁ = p .wide .ensures .0 ∙ p .before .field-from .ensures in
-    let e₂ = c .before .before .before .before .wide2 .ensures .0 ∙ c .before .before .before .before .before .field-from2 .ensures in
-    let e₃ = c .before .before .wide3 .ensures .0 ∙ c .before .before .before .field-from3 .ensures in
-    let e₄ = c .wide4 .ensures .0 ∙ c .before .field-from4 .ensures in
+    let e₂ = wide2 .ensures .0 ∙ field-from2 .ensures in
+    let e₃ = wide3 .ensures .0 ∙ field-from3 .ensures in
+    let e₄ = c .wide4 .ensures .0 ∙ field-from4 .ensures in
     λ i. record { n = e₁ i + 1; d = e₂ i + 1; c = e₃ i + 1; asks = e₄ i }
 
 pub head-spec : {M : Type 1} → statement M

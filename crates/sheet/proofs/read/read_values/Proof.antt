@@ -7,10 +7,6 @@ use borrow.Author.Needs.{needs}
 use Rattle.sheet.proofs.Filled.{reading, reading-all, reading-none, read-small, reading-more, next-small}
 use Rattle.sheet.proofs.read.read_values.Statement.{statement}
 use Rattle.sheet.proofs.read.read_values.Tie as tie
-use Rattle.sheet.proofs.read.read_values.Reads as reads
-use Rattle.sheet.proofs.read.read_values.Lts as lts
-use Rattle.sheet.proofs.place.field_from.Reads as field-from-reads
-use Rattle.sheet.proofs.values.signed_value.Reads as signed-value-reads
 
 abbrev Inv-loop : tie.InvT-loop
 Inv-loop sheet at c buffer₀ i₀ p₀ buffer i p =
@@ -26,7 +22,11 @@ field-from-requires : tie.Need-field-from-requires Inv-loop μ-loop
 field-from-requires c κs = search needs
 
 signed-value-requires : tie.Need-signed-value-requires Inv-loop μ-loop
-signed-value-requires c κs = (c .before .before .before .before .pre .0, c .before .before .before .before .pre .1, read-small (c .before .before .before .before .args .sheet .now) (c .before .before .before .before .args .c) (c .before .before .loop .buffer) (c .before .before .loop .i) (c .before .before .loop .p) (c .before .loop-test .taken) (c .before .before .before .before .pre .1) (c .field-from .result) (c .field-from .ensures))
+signed-value-requires c κs =
+    let s = c .before .before .before .before in
+    let loop = c .before .before .loop in
+    let loop-test = c .before .loop-test in
+    (s .pre .0, s .pre .1, read-small (s .args .sheet .now) (s .args .c) (loop .buffer) (loop .i) (loop .p) (loop-test .taken) (s .pre .1) (c .field-from .result) (c .field-from .ensures))
 
 slice-set-from-buffer : tie.Need-slice-set-from-buffer Inv-loop μ-loop
 slice-set-from-buffer c = omega arith
@@ -58,7 +58,9 @@ same-length c = omega arith
 
 returns : tie.Need-returns Inv-loop μ-loop
 returns c =
-    sym (reading-none (c .before .before .before .args .sheet .now) (c .before .before .before .args .c) (c .before .loop .buffer) (c .before .loop .i) (c .before .loop .p) (c .loop-test .left)) ∙ c .before .loop .inv .3 ∙ reading-all (c .before .before .before .args .sheet .now) (c .before .before .before .args .c) (c .before .before .before .args .buffer .now) (c .before .before .before .args .at)
+    let s = c .before .before .before in
+    let loop = c .before .loop in
+    sym (reading-none (s .args .sheet .now) (s .args .c) (loop .buffer) (loop .i) (loop .p) (c .loop-test .left)) ∙ loop .inv .3 ∙ reading-all (s .args .sheet .now) (s .args .c) (s .args .buffer .now) (s .args .at)
 
 pub read-values-spec : {M : Type 1} → statement M
 read-values-spec =

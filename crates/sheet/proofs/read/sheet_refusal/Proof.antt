@@ -4,11 +4,6 @@ use native.Mathlib.Omega.{arith}
 use Rattle.sheet.proofs.Reading.{short, many-asks, asks-is, head-small, length-under, length-over, filling-set, filling-clear}
 use Rattle.sheet.proofs.read.sheet_refusal.Statement.{statement}
 use Rattle.sheet.proofs.read.sheet_refusal.Tie as tie
-use Rattle.sheet.proofs.read.sheet_refusal.Reads as reads
-use Rattle.sheet.proofs.read.sheet_refusal.Lts as lts
-use Rattle.sheet.proofs.place.field_from.Reads as field-from-reads
-use Rattle.sheet.proofs.read.bit_count.Reads as bit-count-reads
-use Rattle.sheet.proofs.read.head.Reads as head-reads
 
 returns : tie.Need-returns
 returns c = short (c .before .before .args .sheet .now) (c .if1 .taken)
@@ -22,7 +17,9 @@ returns-2 c =
 
 bit-count-requires : tie.Need-bit-count-requires
 bit-count-requires c κs =
-    let h = head-small (c .before .before .before .before .before .args .sheet .now) (c .before .before .head .result) (c .before .before .head .ensures) in
+    let s = c .before .before .before .before .before in
+    let head = c .before .before .head in
+    let h = head-small (s .args .sheet .now) (head .result) (head .ensures) in
     (h .0, h .1, h .3, c .if2 .left)
 
 add-needed : tie.Need-add-needed
@@ -30,11 +27,21 @@ add-needed c = search needs
 
 returns-3 : tie.Need-returns-3
 returns-3 c =
-    length-under (c .before .before .before .before .before .before .before .args .sheet .now) (c .before .before .before .before .head .result) (c .before .before .before .before .head .ensures) (c .before .bit-count .result) (c .before .bit-count .ensures .0) (c .before .before .before .before .before .if1 .left) (c .before .before .if2 .left) (c .if3 .taken)
+    let s = c .before .before .before .before .before .before .before in
+    let if1 = c .before .before .before .before .before .if1 in
+    let head = c .before .before .before .before .head in
+    let if2 = c .before .before .if2 in
+    let bit-count = c .before .bit-count in
+    length-under (s .args .sheet .now) (head .result) (head .ensures) (bit-count .result) (bit-count .ensures .0) (if1 .left) (if2 .left) (c .if3 .taken)
 
 returns-4 : tie.Need-returns-4
 returns-4 c =
-    length-over (c .before .before .before .before .before .before .before .before .args .sheet .now) (c .before .before .before .before .before .head .result) (c .before .before .before .before .before .head .ensures) (c .before .before .bit-count .result) (c .before .before .bit-count .ensures .0) (c .before .before .before .before .before .before .if1 .left) (c .before .before .before .if2 .left) (c .if4 .taken)
+    let s = c .before .before .before .before .before .before .before .before in
+    let if1 = c .before .before .before .before .before .before .if1 in
+    let head = c .before .before .before .before .before .head in
+    let if2 = c .before .before .before .if2 in
+    let bit-count = c .before .before .bit-count in
+    length-over (s .args .sheet .now) (head .result) (head .ensures) (bit-count .result) (bit-count .ensures .0) (if1 .left) (if2 .left) (c .if4 .taken)
 
 mul-field-from : tie.Need-mul-field-from
 mul-field-from c = search needs

@@ -4,16 +4,15 @@ use native.Mathlib.Omega.{arith}
 use Rattle.sheet.proofs.Reading.{product-small, vectors-none, vectors-other, vectors-fit}
 use Rattle.sheet.proofs.read.vectors_refusal.Statement.{statement}
 use Rattle.sheet.proofs.read.vectors_refusal.Tie as tie
-use Rattle.sheet.proofs.read.vectors_refusal.Reads as reads
-use Rattle.sheet.proofs.read.vectors_refusal.Lts as lts
-use Rattle.sheet.proofs.read.head.Reads as head-reads
-use Rattle.sheet.proofs.read.sheet_refusal.Reads as sheet-refusal-reads
 
 sheet-refusal-requires : tie.Need-sheet-refusal-requires
 sheet-refusal-requires c κs = search needs
 
 returns : tie.Need-returns
-returns c = vectors-none (c .before .before .before .args .sheet .now) (c .before .sheet-refusal .result) (c .before .sheet-refusal .ensures) (c .if1 .taken) (c .before .before .before .args .room)
+returns c =
+    let s = c .before .before .before in
+    let sheet-refusal = c .before .sheet-refusal in
+    vectors-none (s .args .sheet .now) (sheet-refusal .result) (sheet-refusal .ensures) (c .if1 .taken) (s .args .room)
 
 head-requires : tie.Need-head-requires
 head-requires c κs = search needs
@@ -23,11 +22,19 @@ mul-if2 c = omega (arith, product-small (c .before .before .before .before .befo
 
 returns-2 : tie.Need-returns-2
 returns-2 c =
-    vectors-other (c .before .before .before .before .before .before .args .sheet .now) (c .before .before .before .before .sheet-refusal .result) (c .before .before .before .before .sheet-refusal .ensures) (c .before .before .before .if1 .left) (c .before .before .head .result) (c .before .before .head .ensures) (c .before .before .before .before .before .before .args .room) (c .if2 .taken)
+    let s = c .before .before .before .before .before .before in
+    let sheet-refusal = c .before .before .before .before .sheet-refusal in
+    let if1 = c .before .before .before .if1 in
+    let head = c .before .before .head in
+    vectors-other (s .args .sheet .now) (sheet-refusal .result) (sheet-refusal .ensures) (if1 .left) (head .result) (head .ensures) (s .args .room) (c .if2 .taken)
 
 returns-3 : tie.Need-returns-3
 returns-3 c =
-    vectors-fit (c .before .before .before .before .before .before .args .sheet .now) (c .before .before .before .before .sheet-refusal .result) (c .before .before .before .before .sheet-refusal .ensures) (c .before .before .before .if1 .left) (c .before .before .head .result) (c .before .before .head .ensures) (c .before .before .before .before .before .before .args .room) (c .if2 .left)
+    let s = c .before .before .before .before .before .before in
+    let sheet-refusal = c .before .before .before .before .sheet-refusal in
+    let if1 = c .before .before .before .if1 in
+    let head = c .before .before .head in
+    vectors-fit (s .args .sheet .now) (sheet-refusal .result) (sheet-refusal .ensures) (if1 .left) (head .result) (head .ensures) (s .args .room) (c .if2 .left)
 
 pub vectors-refusal-spec : {M : Type 1} → statement M
 vectors-refusal-spec =

@@ -6,8 +6,6 @@ use borrow.Author.Tests.{lt-ltb, le-ltb}
 use Rattle.laws.proofs.Tests.{or-l}
 use Rattle.sheet.proofs.refuse.are_wrong.Statement.{statement}
 use Rattle.sheet.proofs.refuse.are_wrong.Tie as tie
-use Rattle.sheet.proofs.refuse.are_wrong.Reads as reads
-use Rattle.sheet.proofs.refuse.are_wrong.Lts as lts
 
 returns : tie.Need-returns
 returns c = sym (or-l (ltb 127 (c .before .args .asks)) _ (lt-ltb _ _ (c .if1 .taken)))

@@ -1,15 +1,12 @@
 -- `sheet::refuse::asks_refusal` meets its contract. The invariant: what is left decides. Assumes nothing.
 use native.Mathlib.Omega.{arith}
-use mathlib.Core.Path.{_≡_, refl, sym, ap, _∙_}
+use mathlib.Core.Path.{_≡_, sym, _∙_}
 use Prim.Native.Nat.{_*_, _-_, _≤_}
 use lib.ListN.{drop}
 use Rattle.rules.specs.Refusals.{asksRefusal}
 use Rattle.sheet.proofs.Refusing.{asks-start, ask-stops, ask-passes, asks-done}
 use Rattle.sheet.proofs.refuse.asks_refusal.Statement.{statement}
 use Rattle.sheet.proofs.refuse.asks_refusal.Tie as tie
-use Rattle.sheet.proofs.refuse.asks_refusal.Reads as reads
-use Rattle.sheet.proofs.refuse.asks_refusal.Lts as lts
-use Rattle.sheet.proofs.refuse.refusal_at.Reads as refusal-at-reads
 
 abbrev Inv-loop : tie.InvT-loop
 Inv-loop asks numbers i₀ i = (i ≤ asks) × (asksRefusal (asks - i) (drop (i * 4) numbers) ≡ asksRefusal asks numbers)
@@ -27,7 +24,12 @@ refusal-at-requires : tie.Need-refusal-at-requires Inv-loop μ-loop
 refusal-at-requires c κs = omega arith
 
 returns : tie.Need-returns Inv-loop μ-loop
-returns c = ask-stops (c .before .before .before .before .before .args .asks) (c .before .before .before .loop .i) (c .before .before .before .before .before .args .numbers .now) (c .before .before .loop-test .taken) (c .before .refusal-at .result) (c .before .refusal-at .ensures) (c .if1 .taken) ∙ c .before .before .before .loop .inv .1
+returns c =
+    let s = c .before .before .before .before .before in
+    let loop = c .before .before .before .loop in
+    let loop-test = c .before .before .loop-test in
+    let refusal-at = c .before .refusal-at in
+    ask-stops (s .args .asks) (loop .i) (s .args .numbers .now) (loop-test .taken) (refusal-at .result) (refusal-at .ensures) (c .if1 .taken) ∙ loop .inv .1
 
 add-i : tie.Need-add-i Inv-loop μ-loop
 add-i c = omega arith
@@ -40,7 +42,10 @@ loop-again c =
     (omega arith, ask-passes (c .before .before .before .before .before .args .asks) (c .before .before .before .loop .i) (c .before .before .before .before .before .args .numbers .now) (c .before .before .loop-test .taken) (c .before .refusal-at .result) (c .before .refusal-at .ensures) (c .if1 .left) ∙ c .before .before .before .loop .inv .1)
 
 returns-2 : tie.Need-returns-2 Inv-loop μ-loop
-returns-2 c = sym (asks-done (c .before .before .before .args .asks) (c .before .loop .i) (c .before .before .before .args .numbers .now) (c .loop-test .left)) ∙ c .before .loop .inv .1
+returns-2 c =
+    let s = c .before .before .before in
+    let loop = c .before .loop in
+    sym (asks-done (s .args .asks) (loop .i) (s .args .numbers .now) (c .loop-test .left)) ∙ loop .inv .1
 
 pub asks-refusal-spec : {M : Type 1} → statement M
 asks-refusal-spec =

@@ -5,11 +5,11 @@ use borrow.Author.Tests.{lt-ltb, le-ltb}
 use Rattle.laws.proofs.Tests.{or-l}
 use Rattle.sheet.proofs.refuse.is_outside.Statement.{statement}
 use Rattle.sheet.proofs.refuse.is_outside.Tie as tie
-use Rattle.sheet.proofs.refuse.is_outside.Reads as reads
-use Rattle.sheet.proofs.refuse.is_outside.Lts as lts
 
 returns : tie.Need-returns
-returns c = sym (or-l (ltb (c .before .args .x) (c .before .args .low)) (ltb (c .before .args .high) (c .before .args .x)) (lt-ltb _ _ (c .if1 .taken)))
+returns c =
+    let s = c .before in
+    sym (or-l (ltb (s .args .x) (s .args .low)) (ltb (s .args .high) (s .args .x)) (lt-ltb _ _ (c .if1 .taken)))
 
 returns-2 : tie.Need-returns-2
 returns-2 c = rw (le-ltb (c .before .args .x) (c .before .args .low) (c .if1 .left))

@@ -4,9 +4,6 @@ use mathlib.Core.Path.{_∙_}
 use Rattle.sheet.proofs.Refusing.{ask-at}
 use Rattle.sheet.proofs.refuse.refusal_at.Statement.{statement}
 use Rattle.sheet.proofs.refuse.refusal_at.Tie as tie
-use Rattle.sheet.proofs.refuse.refusal_at.Reads as reads
-use Rattle.sheet.proofs.refuse.refusal_at.Lts as lts
-use Rattle.sheet.proofs.refuse.ask_refusal.Reads as ask-refusal-reads
 
 mul-ask-refusal : tie.Need-mul-ask-refusal
 mul-ask-refusal c = search needs

@@ -1,6 +1,6 @@
 -- `sheet::values::all_fit` meets its contract. The invariant: what is left decides. Assumes nothing.
 use native.Mathlib.Omega.{arith}
-use mathlib.Core.Path.{_≡_, refl, sym, ap, _∙_}
+use mathlib.Core.Path.{_≡_, refl, _∙_}
 use Prim.Native.Nat.{_-_, _≤_}
 use lib.ListN.{length, drop}
 use borrow.Author.Tests.{not-true, not-false}
@@ -8,9 +8,6 @@ use Rattle.rules.specs.Bits.{allFit}
 use Rattle.sheet.proofs.Signs.{all-stops, all-passes, all-done}
 use Rattle.sheet.proofs.values.all_fit.Statement.{statement}
 use Rattle.sheet.proofs.values.all_fit.Tie as tie
-use Rattle.sheet.proofs.values.all_fit.Reads as reads
-use Rattle.sheet.proofs.values.all_fit.Lts as lts
-use Rattle.sheet.proofs.values.fits_width.Reads as fits-width-reads
 
 abbrev Inv-loop : tie.InvT-loop
 Inv-loop c values i₀ i = (i ≤ length values) × (allFit c (drop i values) ≡ allFit c values)
@@ -28,7 +25,13 @@ fits-width-requires : tie.Need-fits-width-requires Inv-loop μ-loop
 fits-width-requires c κs = c .before .before .before .pre
 
 returns : tie.Need-returns Inv-loop μ-loop
-returns c = all-stops (c .before .before .before .before .before .args .c) (c .before .before .before .before .before .args .values .now) (c .before .before .before .before .loop .i) (c .before .before .before .loop-test .taken) (record { sfits = c .before .before .fits-width-arg .given }) (c .before .fits-width .result) (c .before .fits-width .ensures) (not-true (c .before .fits-width .result) (c .if1 .taken)) ∙ c .before .before .before .before .loop .inv .1
+returns c =
+    let s = c .before .before .before .before .before in
+    let loop = c .before .before .before .before .loop in
+    let loop-test = c .before .before .before .loop-test in
+    let fits-width-arg = c .before .before .fits-width-arg in
+    let fits-width = c .before .fits-width in
+    all-stops (s .args .c) (s .args .values .now) (loop .i) (loop-test .taken) (record { sfits = fits-width-arg .given }) (fits-width .result) (fits-width .ensures) (not-true (fits-width .result) (c .if1 .taken)) ∙ loop .inv .1
 
 add-i : tie.Need-add-i Inv-loop μ-loop
 add-i c = omega arith
@@ -40,7 +43,10 @@ loop-again : tie.Need-loop-again Inv-loop μ-loop
 loop-again c = (omega arith, all-passes (c .before .before .before .before .before .args .c) (c .before .before .before .before .before .args .values .now) (c .before .before .before .before .loop .i) (c .before .before .before .loop-test .taken) (record { sfits = c .before .before .fits-width-arg .given }) (c .before .fits-width .result) (c .before .fits-width .ensures) (not-false (c .before .fits-width .result) (c .if1 .left)) ∙ c .before .before .before .before .loop .inv .1)
 
 returns-2 : tie.Need-returns-2 Inv-loop μ-loop
-returns-2 c = all-done (c .before .before .args .c) (c .before .before .args .values .now) (c .before .loop .i) (c .loop-test .left) ∙ c .before .loop .inv .1
+returns-2 c =
+    let s = c .before .before in
+    let loop = c .before .loop in
+    all-done (s .args .c) (s .args .values .now) (loop .i) (c .loop-test .left) ∙ loop .inv .1
 
 pub all-fit-spec : {M : Type 1} → statement M
 all-fit-spec =

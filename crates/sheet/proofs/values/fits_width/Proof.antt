@@ -3,9 +3,6 @@ use borrow.Author.Needs.{needs}
 use Rattle.sheet.proofs.Signs.{fits-by}
 use Rattle.sheet.proofs.values.fits_width.Statement.{statement}
 use Rattle.sheet.proofs.values.fits_width.Tie as tie
-use Rattle.sheet.proofs.values.fits_width.Reads as reads
-use Rattle.sheet.proofs.values.fits_width.Lts as lts
-use Rattle.sheet.proofs.values.magnitude.Reads as magnitude-reads
 
 magnitude-requires : tie.Need-magnitude-requires
 magnitude-requires c κs = search needs
@@ -20,7 +17,9 @@ shl-result : tie.Need-shl-result
 shl-result c = search needs
 
 returns : tie.Need-returns
-returns c = fits-by (c .before .args .c) (c .before .args .z) (c .magnitude .result) (c .before .fits .z) (c .before .pre .1) (c .magnitude .ensures .0)
+returns c =
+    let s = c .before in
+    fits-by (s .args .c) (s .args .z) (c .magnitude .result) (s .fits .z) (s .pre .1) (c .magnitude .ensures .0)
 
 pub fits-width-spec : {M : Type 1} → statement M
 fits-width-spec = tie.close (tie.spec magnitude-requires sub-result cast-result shl-result returns)

@@ -2,8 +2,6 @@
 use Rattle.sheet.proofs.Signs.{flipped-fits, flipped-cast, plain-cast, flipped-magnitude, plain-magnitude}
 use Rattle.sheet.proofs.values.magnitude.Statement.{statement}
 use Rattle.sheet.proofs.values.magnitude.Tie as tie
-use Rattle.sheet.proofs.values.magnitude.Reads as reads
-use Rattle.sheet.proofs.values.magnitude.Lts as lts
 
 sub-result : tie.Need-sub-result
 sub-result c = flipped-fits (c .before .args .z) (c .before .fits .z) (c .if1 .taken)

@@ -3,8 +3,6 @@ use borrow.Author.Needs.{needs}
 use Rattle.sheet.proofs.Signs.{minus-fits, below-is}
 use Rattle.sheet.proofs.values.negative.Statement.{statement}
 use Rattle.sheet.proofs.values.negative.Tie as tie
-use Rattle.sheet.proofs.values.negative.Reads as reads
-use Rattle.sheet.proofs.values.negative.Lts as lts
 
 cast-result : tie.Need-cast-result
 cast-result c = search needs

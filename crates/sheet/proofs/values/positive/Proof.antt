@@ -3,8 +3,6 @@ use borrow.Author.Needs.{needs}
 use Rattle.sheet.proofs.Signs.{above-is}
 use Rattle.sheet.proofs.values.positive.Statement.{statement}
 use Rattle.sheet.proofs.values.positive.Tie as tie
-use Rattle.sheet.proofs.values.positive.Reads as reads
-use Rattle.sheet.proofs.values.positive.Lts as lts
 
 cast-result : tie.Need-cast-result
 cast-result c = search needs

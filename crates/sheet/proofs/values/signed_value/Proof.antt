@@ -8,10 +8,6 @@ use mir.ValLaws.{toZ-ofZ}
 use Rattle.sheet.proofs.Signs.{half-small, twice, lower-half, upper-half}
 use Rattle.sheet.proofs.values.signed_value.Statement.{statement}
 use Rattle.sheet.proofs.values.signed_value.Tie as tie
-use Rattle.sheet.proofs.values.signed_value.Reads as reads
-use Rattle.sheet.proofs.values.signed_value.Lts as lts
-use Rattle.sheet.proofs.values.negative.Reads as negative-reads
-use Rattle.sheet.proofs.values.positive.Reads as positive-reads
 
 half-facts : (s : tie.Start) → (1 ≤ 1 * 2 ^ (s .args .c - 1) % 65536) × (1 * 2 ^ (s .args .c - 1) % 65536 ≤ 128)
 half-facts s = half-small (s .args .c) (s .pre .0) (s .pre .1)
