@@ -62,7 +62,7 @@ pub(crate) fn see(
     }
 }
 
-// Looks at one cell of a row: a point with an edge becomes seen.
+// Looks at one cell of a row: a point with an edge becomes seen. Few cells have an edge, so that test comes first.
 fn look(
     n: usize,
     d: usize,
@@ -81,8 +81,8 @@ fn look(
     ensures { λ r. ⌜ (now (flags .exit) ≡ looked (now (row .entry)) threshold id (now (flags .entry)))
         × Lined n (keyOf d (now (vectors .entry)) (now (query .entry))) (now (flags .exit)) (now (line .exit)) (r .seen) (r .from) ⌝ }
 {
-    if flags[id] == 0 {
-        if row[id] <= threshold {
+    if row[id] <= threshold {
+        if flags[id] == 0 {
             return see(n, d, vectors, query, id, front, flags, line);
         }
     }
