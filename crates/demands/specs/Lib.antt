@@ -1,3 +1,4 @@
 -- The demands of the minutes, stated of the public entries.
 pub mod Calls
+pub mod Demand1
 pub mod Demand3
