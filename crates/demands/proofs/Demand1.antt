@@ -47,17 +47,21 @@ none-is {A = A} (suc r) x a e = absurd (never e)
     never : _≡_ {A = Outcome A} (gives x) (refused (suc r)) → ⊥
     never e = let z : _≡_ {A = ℕ} 0 1 = cc in omega arith
 
+-- what equals a number that is not 0 is not 0
+carry : {x r : ℕ} → x ≡ r → x ≢ 0 → r ≢ 0
+carry e z q = z (e ∙ q)
+
 -- ---- points and tables
 
 pub point-refused : {n d id number : ℕ} {vectors part : List ℤ} → PointCall n d vectors id part number → number ≢ 0 → Refuses number (pointRefusal n d (length vectors) id) (part ≡ [])
 unfolding pointOf
 point-refused h z =
-    let some = λ e. z (h .numbers ∙ e) in record { is = h .numbers; one = some; unchanged = h .hands ∙ after-old some _ _ }
+    record { is = h .numbers; one = carry (h .numbers) z; unchanged = h .hands ∙ after-old (carry (h .numbers) z) _ _ }
 
 pub build-refused : {n d number : ℕ} {vectors : List ℤ} {table table′ : List ℕ} → BuildCall n d vectors table number table′ → number ≢ 0 → Refuses number (buildRefusal n d (length vectors) (length table)) (table′ ≡ table)
 unfolding tableAfter
 build-refused h z =
-    let some = λ e. z (h .answers ∙ e) in record { is = h .answers; one = some; unchanged = h .table-holds ∙ after-old some _ _ }
+    record { is = h .answers; one = carry (h .answers) z; unchanged = h .table-holds ∙ after-old (carry (h .answers) z) _ _ }
 
 -- ---- the search
 
@@ -114,7 +118,7 @@ header-taken h = none-is _ _ _ (h .answers)
 pub vectors-refused : {ys : List ℕ} {buffer buffer′ : List ℤ} {number : ℕ} → VectorsCall ys buffer number buffer′ → number ≢ 0 → Refuses number (vectorsRefusal ys (length buffer)) (buffer′ ≡ buffer)
 unfolding vectorsAfter
 vectors-refused h z =
-    let some = λ e. z (h .answers ∙ e) in record { is = h .answers; one = some; unchanged = h .buffer-holds ∙ after-old some _ _ }
+    record { is = h .answers; one = carry (h .answers) z; unchanged = h .buffer-holds ∙ after-old (carry (h .answers) z) _ _ }
 
 pub ask-refused : {ys : List ℕ} {i number : ℕ} {query query′ : List ℤ} → AskCall ys i query (asked.Refused number) query′ → Refuses number (oneAskRefusal ys i (length query)) (query′ ≡ query)
 unfolding askAnswer queryAfter

@@ -45,21 +45,23 @@ gave {A = A} (suc r) x y e = absurd (never e)
     never e = let z : _≡_ {A = ℕ} 0 1 = cc in omega arith
 
 -- the counts are those of the rules, and the buffers begin with ids, distances and trail
-record Gave (a : Ask) (c : Counts) (ids distances trail ids′ distances′ trail′ : List ℕ) : Type 0 where
-  ok : SearchOk (a .n) (a .d) (length (a .vectors)) (length (a .table)) (length (a .query)) (a .start) (a .threshold) (a .width) (a .k) (length ids) (length distances) (length trail)
-  found : c .found ≡ length (nearIds a)
-  walked : c .walked ≡ length (searched a .trail)
-  ids-are : ids′ ≡ over (nearIds a) ids
-  distances-are : distances′ ≡ over (nearDistances a) distances
-  trail-is : trail′ ≡ over (searched a .trail) trail
+pub record Gave (a : Ask) (c : Counts) (ids distances trail ids′ distances′ trail′ : List ℕ) : Type 0 where
+  pub ok : SearchOk (a .n) (a .d) (length (a .vectors)) (length (a .table)) (length (a .query)) (a .start) (a .threshold) (a .width) (a .k) (length ids) (length distances) (length trail)
+  pub found : c .found ≡ length (nearIds a)
+  pub seen : c .seen ≡ count (a .n) (searched a .seen)
+  pub walked : c .walked ≡ length (searched a .trail)
+  pub ids-are : ids′ ≡ over (nearIds a) ids
+  pub distances-are : distances′ ≡ over (nearDistances a) distances
+  pub trail-is : trail′ ≡ over (searched a .trail) trail
 
-gave-search : {a : Ask} {c : Counts} {ids distances trail ids′ distances′ trail′ : List ℕ} → SearchCall a ids distances trail (Done c) ids′ distances′ trail′ → Gave a c ids distances trail ids′ distances′ trail′
+pub gave-search : {a : Ask} {c : Counts} {ids distances trail ids′ distances′ trail′ : List ℕ} → SearchCall a ids distances trail (Done c) ids′ distances′ trail′ → Gave a c ids distances trail ids′ distances′ trail′
 unfolding searchAnswer idsAfter distancesAfter trailAfter refusalOf askedRefusal countsOf
 gave-search {a} {c} {ids} {distances} {trail} h =
     let g = gave (refusalOf a ids distances trail) _ _ (h .answers) in
     record {
       ok = search-ok _ _ _ _ _ _ _ _ _ _ _ _ (g .0);
       found = ap (λ (k : rules.Counts). k .found) (g .1);
+      seen = ap (λ (k : rules.Counts). k .seen) (g .1);
       walked = ap (λ (k : rules.Counts). k .walked) (g .1);
       ids-are = h .ids-hold ∙ after-new (g .0) _ _;
       distances-are = h .distances-hold ∙ after-new (g .0) _ _;
@@ -67,7 +69,7 @@ gave-search {a} {c} {ids} {distances} {trail} h =
     }
 
 -- a buffer begins with what was put over it
-over-take : (l old new : List ℕ) (m : ℕ) → m ≡ length l → new ≡ over l old → take m new ≡ l
+pub over-take : (l old new : List ℕ) (m : ℕ) → m ≡ length l → new ≡ over l old → take m new ≡ l
 unfolding over
 over-take l old new m e q = rw q (take-at l (drop (length l) old) m (sym e))
 

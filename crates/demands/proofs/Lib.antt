@@ -1,3 +1,5 @@
 -- Each demand, proved by what stands below: a reader of the minutes finds every sentence here.
 pub mod Demand1
 pub mod Demand3
+pub mod Demand2
+pub mod Fixed

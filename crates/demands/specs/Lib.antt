@@ -1,4 +1,5 @@
 -- The demands of the minutes, stated of the public entries.
 pub mod Calls
 pub mod Demand1
+pub mod Demand2
 pub mod Demand3
