@@ -131,8 +131,7 @@ turn-start d c asks ns qs at out f =
     let z : asks - 0 ≡ asks = omega arith in
     record { few = omega arith; used = refl; asked = omega arith; place = omega arith; as-long = refl; rest-fit = rw z f; gives = rw z }
 
-module _ (d c asks : ℕ) (ns : List ℕ) (qs : List ℤ) (at : ℕ) (out₀ : List ℕ) (i j q p : ℕ) (out : List ℕ)
-    (t : Turn d c asks ns qs at out₀ i j q p out) where
+module _ {d c asks : ℕ} {ns : List ℕ} {qs : List ℤ} {at : ℕ} {out₀ : List ℕ} {i j q p : ℕ} {out : List ℕ} (t : Turn d c asks ns qs at out₀ i j q p out) where
   asks-zero : putBits out p (askBits d c 0 (drop j ns) (drop q qs)) ≡ out
   unfolding askBits
   asks-zero = putBits-none out p

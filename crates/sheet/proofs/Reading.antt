@@ -26,7 +26,7 @@ module _ (ys : List ℕ) where
   short h = rw (lt-ltb (length ys) 3 h)
 
   module _ (header : 3 ≤ length ys) where
-    pub many-asks : 127 < askCount ys → 12 ≡ sheetRefusal ys
+    many-asks : 127 < askCount ys → 12 ≡ sheetRefusal ys
     unfolding sheetRefusal
     many-asks h = rw (le-ltb (length ys) 3 header, lt-ltb 127 (askCount ys) h)
 
@@ -72,40 +72,49 @@ module _ (ys : List ℕ) (h : Head) (is : h ≡ headOf ys) where
   pub product-small : h .n * h .d ≤ 8192
   product-small = mul-le-mul (head-small .0) (head-small .1)
 
-  module _ (bits : ℕ) (count : bits ≡ bitCount (h .n) (h .d) (h .c) (h .asks)) where
-    bits-are : bits ≡ required ys
-    unfolding required
-    bits-are = count ∙ rw (n-is, d-is, c-is, asks-is)
+  pub asks-over : 3 ≤ length ys → 127 < h .asks → 12 ≡ sheetRefusal ys
+  asks-over header l = many-asks ys header (omega (arith, asks-is))
 
-    bytes-are : (bits + 7) / 8 ≡ needed ys
-    unfolding sheetLength byteCount required
-    bytes-are = ap (λ (x : ℕ). (x + 7) / 8) bits-are
+-- the header was read, it says few asks, and its bits were counted
+pub record Counted (ys : List ℕ) (h : Head) (bits : ℕ) : Type 0 where
+  pub head : h ≡ headOf ys
+  pub header : 3 ≤ length ys
+  pub few : h .asks ≤ 127
+  pub count : bits ≡ bitCount (h .n) (h .d) (h .c) (h .asks)
 
-    module _ (header : 3 ≤ length ys) (few : h .asks ≤ 127) where
-      few-asks : askCount ys ≤ 127
-      few-asks = omega (arith, asks-is)
+module _ {ys : List ℕ} {h : Head} {bits : ℕ} (k : Counted ys h bits) where
+  bits-are : bits ≡ required ys
+  unfolding required
+  bits-are = k .count ∙ rw (n-is ys h (k .head), d-is ys h (k .head), c-is ys h (k .head), asks-is ys h (k .head))
 
-      pub length-under : length ys < (bits + 7) / 8 → 15 ≡ sheetRefusal ys
-      length-under l = too-short ys header few-asks (omega (arith, bytes-are))
+  bytes-are : (bits + 7) / 8 ≡ needed ys
+  unfolding sheetLength byteCount required
+  bytes-are = ap (λ (x : ℕ). (x + 7) / 8) bits-are
 
-      pub length-over : (bits + 7) / 8 < length ys → 16 ≡ sheetRefusal ys
-      length-over l = too-long ys header few-asks (omega (arith, bytes-are))
+  few-asks : askCount ys ≤ 127
+  few-asks = omega (arith, k .few, asks-is ys h (k .head))
 
-      -- the filling is the field of what is left of the last byte
-      module _ (same : (bits + 7) / 8 ≡ length ys) (rest : ℕ) (is-rest : rest ≡ fieldAt ys bits (min (length ys * 8 - bits) 16)) where
-        rest-is : rest ≡ filling ys
-        unfolding filling
-        rest-is =
-            let e : min (length ys * 8 - bits) 16 ≡ length ys * 8 - bits = omega arith in
-            is-rest ∙ ap (fieldAt ys bits) e ∙ ap (λ (b : ℕ). fieldAt ys b (length ys * 8 - b)) bits-are
+  pub length-under : length ys < (bits + 7) / 8 → 15 ≡ sheetRefusal ys
+  length-under l = too-short ys (k .header) few-asks (omega (arith, bytes-are))
 
-        pub filling-set : 0 < rest → 16 ≡ sheetRefusal ys
-        filling-set l = filled-in ys header few-asks (omega (arith, bytes-are)) (omega (arith, rest-is))
+  pub length-over : (bits + 7) / 8 < length ys → 16 ≡ sheetRefusal ys
+  length-over l = too-long ys (k .header) few-asks (omega (arith, bytes-are))
 
-        pub filling-clear : rest ≤ 0 → 0 ≡ sheetRefusal ys
-        unfolding sheetLength required
-        filling-clear l =
-            sym (read-none ys record { header = header; few-asks = few-asks; long = omega (arith, bytes-are); unfilled = omega (arith, rest-is) })
+  -- the length is as required: the filling is the field of what is left of the last byte
+  module _ (less : (bits + 7) / 8 ≤ length ys) (more : length ys ≤ (bits + 7) / 8) {rest : ℕ} (is-rest : rest ≡ fieldAt ys bits (min (length ys * 8 - bits) 16)) where
+    rest-is : rest ≡ filling ys
+    unfolding filling
+    rest-is =
+        let e : min (length ys * 8 - bits) 16 ≡ length ys * 8 - bits = omega arith in
+        is-rest ∙ ap (fieldAt ys bits) e ∙ ap (λ (b : ℕ). fieldAt ys b (length ys * 8 - b)) bits-are
+
+    pub filling-set : 0 < rest → 16 ≡ sheetRefusal ys
+    filling-set l = filled-in ys (k .header) few-asks (omega (arith, bytes-are)) (omega (arith, rest-is))
+
+    pub filling-clear : rest ≤ 0 → 0 ≡ sheetRefusal ys
+    unfolding sheetLength required
+    filling-clear l =
+        sym (read-none ys record { header = k .header; few-asks = few-asks; long = omega (arith, bytes-are); unfilled = omega (arith, rest-is) })
 
 -- ---- then the vectors, or one ask
 

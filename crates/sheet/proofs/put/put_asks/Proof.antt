@@ -17,13 +17,13 @@ in-numbers : (c : tie.In-loop Inv-loop μ-loop) → c .before .loop .j + 4 ≤ l
 in-numbers c =
     let s = c .before .before .before .before in
     let l = c .before .loop in
-    numbers-left (s .args .d) (s .args .c) (s .args .asks) (s .args .ns .now) (s .args .qs .now) (s .args .at) (s .args .out .now) (l .i) (l .j) (l .q) (l .p) (l .out) (l .inv) (c .loop-test .taken) (s .pre .3) (s .pre .4)
+    numbers-left (l .inv) (c .loop-test .taken) (s .pre .3) (s .pre .4)
 
 in-queries : (c : tie.In-loop Inv-loop μ-loop) → c .before .loop .q + c .before .before .before .before .args .d ≤ length (c .before .before .before .before .args .qs .now)
 in-queries c =
     let s = c .before .before .before .before in
     let l = c .before .loop in
-    queries-left (s .args .d) (s .args .c) (s .args .asks) (s .args .ns .now) (s .args .qs .now) (s .args .at) (s .args .out .now) (l .i) (l .j) (l .q) (l .p) (l .out) (l .inv) (c .loop-test .taken) (s .pre .3) (s .pre .4)
+    queries-left (l .inv) (c .loop-test .taken) (s .pre .3) (s .pre .4)
 
 loop-holds : tie.Need-loop-holds Inv-loop μ-loop
 loop-holds c =
@@ -61,11 +61,11 @@ put-ask-requires : tie.Need-put-ask-requires Inv-loop μ-loop
 put-ask-requires c κs =
     let s = c .before .before .before .before .before .before .before in
     let l = c .before .before .before .before .loop in
-    let room = turn-room (s .args .d) (s .args .c) (s .args .asks) (s .args .ns .now) (s .args .qs .now) (s .args .at) (s .args .out .now) (l .i) (l .j) (l .q) (l .p) (l .out) (l .inv) (c .before .before .before .loop-test .taken) (s .pre .3) (s .pre .4) (s .args .at + s .args .asks * (36 + s .args .d * s .args .c)) (omega arith) in (
+    let room = turn-room (l .inv) (c .before .before .before .loop-test .taken) (s .pre .3) (s .pre .4) (s .args .at + s .args .asks * (36 + s .args .d * s .args .c)) (omega arith) in (
       s .pre .0,
-      turn-four (s .args .d) (s .args .c) (s .args .asks) (s .args .ns .now) (s .args .qs .now) (s .args .at) (s .args .out .now) (l .i) (l .j) (l .q) (l .p) (l .out) (l .inv) (c .before .before .before .loop-test .taken) (s .pre .3) (s .pre .4),
-      turn-fits (s .args .d) (s .args .c) (s .args .asks) (s .args .ns .now) (s .args .qs .now) (s .args .at) (s .args .out .now) (l .i) (l .j) (l .q) (l .p) (l .out) (l .inv) (c .before .before .before .loop-test .taken) (s .pre .3) (s .pre .4),
-      turn-values (s .args .d) (s .args .c) (s .args .asks) (s .args .ns .now) (s .args .qs .now) (s .args .at) (s .args .out .now) (l .i) (l .j) (l .q) (l .p) (l .out) (l .inv) (c .before .before .before .loop-test .taken) (s .pre .3) (s .pre .4) (s .pre .2),
+      turn-four (l .inv) (c .before .before .before .loop-test .taken) (s .pre .3) (s .pre .4),
+      turn-fits (l .inv) (c .before .before .before .loop-test .taken) (s .pre .3) (s .pre .4),
+      turn-values (l .inv) (c .before .before .before .loop-test .taken) (s .pre .3) (s .pre .4) (s .pre .2),
       omega (arith, room, l .inv .as-long),
       omega (arith, room),
     )
@@ -81,16 +81,13 @@ loop-again c =
     let s = c .before .before .before .before .before .before .before .before .before .before in
     let l = c .before .before .before .before .before .before .before .loop in
     let f = c .before .before .put-ask in
-    turn-again (s .args .d) (s .args .c) (s .args .asks) (s .args .ns .now) (s .args .qs .now) (s .args .at) (s .args .out .now) (l .i) (l .j) (l .q) (l .p) (l .out) (l .inv) (c .before .before .before .before .before .before .loop-test .taken) (s .pre .3) (s .pre .4) (f .last .0) (f .result) (f .ensures .0) (f .kept .0) (f .ensures .1)
+    turn-again (l .inv) (c .before .before .before .before .before .before .loop-test .taken) (s .pre .3) (s .pre .4) (f .last .0) (f .result) (f .ensures .0) (f .kept .0) (f .ensures .1)
 
 same-length : tie.Need-same-length Inv-loop μ-loop
 same-length c = c .before .loop .inv .as-long
 
 returns : tie.Need-returns Inv-loop μ-loop
-returns c =
-    let s = c .before .before .before .before .args in
-    let l = c .before .loop in
-    turn-end (s .d) (s .c) (s .asks) (s .ns .now) (s .qs .now) (s .at) (s .out .now) (l .i) (l .j) (l .q) (l .p) (l .out) (l .inv) (c .loop-test .left)
+returns c = turn-end (c .before .loop .inv) (c .loop-test .left)
 
 pub put-asks-spec : {M : Type 1} → statement M
 put-asks-spec =
