@@ -1,17 +1,15 @@
 -- Demand 1, entry by entry. Assumes nothing.
-use Prim.Native.Nat.{ℕ, zero, suc}
-use native.Mathlib.Omega.{arith}
-use mathlib.Core.Path.{_≡_, refl, sym, ap, _∙_}
+use Prim.Native.Nat.{ℕ}
+use mathlib.Core.Path.{_≡_, sym, _∙_}
 use mathlib.Core.Logic.{_≢_}
 use mathlib.Core.List.{List, []}
 use lib.IntN.{ℤ}
 use lib.ListN.{length}
-use Rattle.rules.specs.Outcome.{Outcome, gives, refused, outcome, after}
 use Rattle.rules.specs.Walk.{Walk}
 use Rattle.rules.specs.Sheet.{Contents}
 use Rattle.rules.specs.Refusals.{pointRefusal, buildRefusal, walkRefusal, sheetRefusal, vectorsRefusal, oneAskRefusal}
 use Rattle.rules.specs.Entries.{Ask, pointOf, tableAfter, refusalOf, searchAnswer, idsAfter, distancesAfter, trailAfter, stepRefused, stepAnswer, recordAfter, walkAnswer, writeRefused, writeAnswer, outputAfter, headerAnswer, vectorsAfter, askAnswer, queryAfter}
-use Rattle.laws.proofs.Refusals.{after-old}
+use Rattle.laws.proofs.Refusals.{after-old, outcome-none, outcome-number}
 use Rattle.search.specs.declared.Counts.{Counts}
 use Rattle.search.specs.declared.Searched.the-variants as searched
 use Rattle.walk.specs.declared.Answer.the-variants as step
@@ -23,29 +21,6 @@ use Rattle.sheet.specs.declared.Headed.the-variants as headed
 use Rattle.sheet.specs.declared.Asked.the-variants as asked
 use Rattle.demands.specs.Calls.{PointCall, BuildCall, SearchCall, StepCall, WalkCall, WriteCall, HeaderCall, VectorsCall, AskCall}
 use Rattle.demands.specs.Demand1.{Refuses}
-
--- ---- answers
-
--- an answer that is a refusal has the order's number, which is none of 0
-number-is : {A : Type 0} (x r : ℕ) (a : A) → _≡_ {A = Outcome A} (refused x) (outcome r a) → (x ≡ r) × (r ≢ 0)
-unfolding outcome
-number-is {A = A} x zero a e = absurd (never e)
-  where
-    never : _≡_ {A = Outcome A} (refused x) (gives a) → ⊥
-    never e = let z : _≡_ {A = ℕ} 0 1 = cc in omega arith
-number-is {A = A} x (suc r) a e = (cc, some)
-  where
-    some : suc r ≢ 0
-    some e = omega arith
-
--- an answer that gives something is none
-none-is : {A : Type 0} (r : ℕ) (x a : A) → _≡_ {A = Outcome A} (gives x) (outcome r a) → r ≡ 0
-unfolding outcome
-none-is {A = A} zero x a e = refl
-none-is {A = A} (suc r) x a e = absurd (never e)
-  where
-    never : _≡_ {A = Outcome A} (gives x) (refused (suc r)) → ⊥
-    never e = let z : _≡_ {A = ℕ} 0 1 = cc in omega arith
 
 -- what equals a number that is not 0 is not 0
 carry : {x r : ℕ} → x ≡ r → x ≢ 0 → r ≢ 0
@@ -68,7 +43,7 @@ build-refused h z =
 pub search-refused : {a : Ask} {ids distances trail ids′ distances′ trail′ : List ℕ} {number : ℕ} → SearchCall a ids distances trail (searched.Refused number) ids′ distances′ trail′ → Refuses number (refusalOf a ids distances trail) ((ids′ ≡ ids) × (distances′ ≡ distances) × (trail′ ≡ trail))
 unfolding searchAnswer idsAfter distancesAfter trailAfter
 search-refused h =
-    let e = number-is _ _ _ (h .answers) in
+    let e = outcome-number _ _ _ (sym (h .answers)) in
     record {
       is = e .0;
       one = e .1;
@@ -77,7 +52,7 @@ search-refused h =
 
 pub search-taken : {a : Ask} {ids distances trail ids′ distances′ trail′ : List ℕ} {c : Counts} → SearchCall a ids distances trail (searched.Done c) ids′ distances′ trail′ → refusalOf a ids distances trail ≡ 0
 unfolding searchAnswer
-search-taken h = none-is _ _ _ (h .answers)
+search-taken h = outcome-none _ _ _ (sym (h .answers))
 
 -- ---- the walk
 
@@ -85,35 +60,35 @@ module _ {n d threshold : ℕ} {vectors query : List ℤ} {table : List ℕ} whe
   pub step-refused : {w w′ : Walk} {number : ℕ} → StepCall n d vectors table query threshold w (step.Refused number) w′ → Refuses number (stepRefused n d vectors table query threshold w) (w′ ≡ w)
   unfolding stepAnswer recordAfter
   step-refused h =
-      let e = number-is _ _ _ (h .answers) in
+      let e = outcome-number _ _ _ (sym (h .answers)) in
       record { is = e .0; one = e .1; unchanged = h .record-holds ∙ after-old (e .1) _ _ }
 
   pub walk-refused : {start number : ℕ} → WalkCall n d vectors table query threshold start (walked.Refused number) → Refuses number (walkRefusal n d (length vectors) (length table) (length query) start threshold) Unit
   unfolding walkAnswer
-  walk-refused h = let e = number-is _ _ _ (h .answers) in record { is = e .0; one = e .1; unchanged = tt }
+  walk-refused h = let e = outcome-number _ _ _ (sym (h .answers)) in record { is = e .0; one = e .1; unchanged = tt }
 
   pub walk-taken : {start : ℕ} {e : End} → WalkCall n d vectors table query threshold start (walked.Ended e) → walkRefusal n d (length vectors) (length table) (length query) start threshold ≡ 0
   unfolding walkAnswer
-  walk-taken h = none-is _ _ _ (h .answers)
+  walk-taken h = outcome-none _ _ _ (sym (h .answers))
 
 -- ---- sheets
 
 pub write-refused : {k : Contents} {output output′ : List ℕ} {number : ℕ} → WriteCall k output (written.Refused number) output′ → Refuses number (writeRefused k output) (output′ ≡ output)
 unfolding writeAnswer outputAfter
 write-refused h =
-    let e = number-is _ _ _ (h .answers) in record { is = e .0; one = e .1; unchanged = h .output-holds ∙ after-old (e .1) _ _ }
+    let e = outcome-number _ _ _ (sym (h .answers)) in record { is = e .0; one = e .1; unchanged = h .output-holds ∙ after-old (e .1) _ _ }
 
 pub write-taken : {k : Contents} {output output′ : List ℕ} {length : ℕ} → WriteCall k output (written.Length length) output′ → writeRefused k output ≡ 0
 unfolding writeAnswer
-write-taken h = none-is _ _ _ (h .answers)
+write-taken h = outcome-none _ _ _ (sym (h .answers))
 
 pub header-refused : {ys : List ℕ} {number : ℕ} → HeaderCall ys (headed.Refused number) → Refuses number (sheetRefusal ys) Unit
 unfolding headerAnswer
-header-refused h = let e = number-is _ _ _ (h .answers) in record { is = e .0; one = e .1; unchanged = tt }
+header-refused h = let e = outcome-number _ _ _ (sym (h .answers)) in record { is = e .0; one = e .1; unchanged = tt }
 
 pub header-taken : {ys : List ℕ} {k : Head} → HeaderCall ys (headed.Holds k) → sheetRefusal ys ≡ 0
 unfolding headerAnswer
-header-taken h = none-is _ _ _ (h .answers)
+header-taken h = outcome-none _ _ _ (sym (h .answers))
 
 pub vectors-refused : {ys : List ℕ} {buffer buffer′ : List ℤ} {number : ℕ} → VectorsCall ys buffer number buffer′ → number ≢ 0 → Refuses number (vectorsRefusal ys (length buffer)) (buffer′ ≡ buffer)
 unfolding vectorsAfter
@@ -123,4 +98,4 @@ vectors-refused h z =
 pub ask-refused : {ys : List ℕ} {i number : ℕ} {query query′ : List ℤ} → AskCall ys i query (asked.Refused number) query′ → Refuses number (oneAskRefusal ys i (length query)) (query′ ≡ query)
 unfolding askAnswer queryAfter
 ask-refused h =
-    let e = number-is _ _ _ (h .answers) in record { is = e .0; one = e .1; unchanged = h .query-holds ∙ after-old (e .1) _ _ }
+    let e = outcome-number _ _ _ (sym (h .answers)) in record { is = e .0; one = e .1; unchanged = h .query-holds ∙ after-old (e .1) _ _ }

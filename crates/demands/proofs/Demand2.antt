@@ -19,6 +19,7 @@ use Rattle.rules.specs.Entries as rules
 use Rattle.rules.specs.Entries.{Ask, tableAfter, searched, nearIds, nearDistances, countsOf, refusalOf, searchAnswer, idsAfter, distancesAfter, trailAfter, writeAnswer, outputAfter, walkAnswer}
 use Rattle.laws.proofs.Refusals.{after-new}
 use Rattle.laws.proofs.Edges.{direct-rule}
+use Rattle.laws.proofs.Distances.{apart-symmetric}
 use Rattle.laws.proofs.Table.{table-length, table-at, cell-self, cell-direct, cell-label, own-closing}
 use Rattle.search.specs.declared.Counts.{Counts}
 use Rattle.search.specs.declared.Searched.the-variants as searching
@@ -35,7 +36,7 @@ use Rattle.sheet.proofs.Trips.{read-written, write-read}
 use Rattle.demands.specs.Calls.{BuildCall, SearchCall, WalkCall, WriteCall}
 use Rattle.demands.specs.Demand2.{Labelled, Searches}
 use Rattle.demands.proofs.Demand1.{search-taken, walk-taken, write-taken}
-use Rattle.demands.proofs.Demand3.{gave-search, over-take, apart-symmetric}
+use Rattle.demands.proofs.Demand3.{gave-search, over-take}
 
 -- ---- labels
 

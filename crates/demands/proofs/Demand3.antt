@@ -12,9 +12,9 @@ use lib.ListN.{length, getD, take, drop, length-append, length-map, List·getD-a
 use lib.Seq.{take-at}
 use borrow.Author.Tests.{eq-eqb}
 use Rattle.rules.specs.Outcome.{Outcome, gives, refused, outcome, after, over}
-use Rattle.rules.specs.Points.{coordinates, apart, away}
+use Rattle.rules.specs.Points.{apart, away}
 use Rattle.rules.specs.Order.{keyed, count, firsts, Ordered}
-use Rattle.rules.specs.Edges.{Closing, Symmetric}
+use Rattle.rules.specs.Edges.{Closing}
 use Rattle.rules.specs.Labels.{tableOf, edgeIn}
 use Rattle.rules.specs.Search.{State, search, answer}
 use Rattle.rules.specs.Entries as rules
@@ -22,9 +22,9 @@ use Rattle.rules.specs.Entries.{Ask, ask, farness, orderOf, edgesOf, searched, 
 use Rattle.laws.specs.Demand3 as laws
 use Rattle.laws.proofs.Demand3.{wider, exact}
 use Rattle.laws.proofs.Tests.{count-all}
-use Rattle.laws.proofs.Refusals.{after-new}
+use Rattle.laws.proofs.Refusals.{after-new, outcome-none, outcome-value}
 use Rattle.laws.proofs.Keyed.{keyed-ordered, keyed-le}
-use Rattle.laws.proofs.Distances.{dist-comm}
+use Rattle.laws.proofs.Distances.{apart-symmetric}
 use Rattle.laws.proofs.Table.{own-closing}
 use Rattle.search.specs.declared.Counts.{Counts}
 use Rattle.search.specs.declared.Searched.{Searched}
@@ -35,14 +35,6 @@ use Rattle.demands.specs.Calls.{SearchCall}
 use Rattle.demands.specs.Demand3.{widened, Begins, SameOrEarlier, Wider, Exact}
 
 -- ---- what an answer that is no refusal tells
-
-gave : {A : Type 0} (r : ℕ) (x y : A) → _≡_ {A = Outcome A} (gives x) (outcome r y) → (r ≡ 0) × (x ≡ y)
-unfolding outcome
-gave {A = A} zero x y e = (refl, cc)
-gave {A = A} (suc r) x y e = absurd (never e)
-  where
-    never : _≡_ {A = Outcome A} (gives x) (refused (suc r)) → ⊥
-    never e = let z : _≡_ {A = ℕ} 0 1 = cc in omega arith
 
 -- the counts are those of the rules, and the buffers begin with ids, distances and trail
 pub record Gave (a : Ask) (c : Counts) (ids distances trail ids′ distances′ trail′ : List ℕ) : Type 0 where
@@ -57,15 +49,16 @@ pub record Gave (a : Ask) (c : Counts) (ids distances trail ids′ distances′ 
 pub gave-search : {a : Ask} {c : Counts} {ids distances trail ids′ distances′ trail′ : List ℕ} → SearchCall a ids distances trail (Done c) ids′ distances′ trail′ → Gave a c ids distances trail ids′ distances′ trail′
 unfolding searchAnswer idsAfter distancesAfter trailAfter refusalOf askedRefusal countsOf
 gave-search {a} {c} {ids} {distances} {trail} h =
-    let g = gave (refusalOf a ids distances trail) _ _ (h .answers) in
+    let none = outcome-none (refusalOf a ids distances trail) _ _ (sym (h .answers)) in
+    let is = sym (outcome-value (refusalOf a ids distances trail) _ _ (sym (h .answers))) in
     record {
-      ok = search-ok _ _ _ _ _ _ _ _ _ _ _ _ (g .0);
-      found = ap (λ (k : rules.Counts). k .found) (g .1);
-      seen = ap (λ (k : rules.Counts). k .seen) (g .1);
-      walked = ap (λ (k : rules.Counts). k .walked) (g .1);
-      ids-are = h .ids-hold ∙ after-new (g .0) _ _;
-      distances-are = h .distances-hold ∙ after-new (g .0) _ _;
-      trail-is = h .trail-holds ∙ after-new (g .0) _ _;
+      ok = search-ok _ _ _ _ _ _ _ _ _ _ _ _ none;
+      found = ap (λ (k : rules.Counts). k .found) is;
+      seen = ap (λ (k : rules.Counts). k .seen) is;
+      walked = ap (λ (k : rules.Counts). k .walked) is;
+      ids-are = h .ids-hold ∙ after-new none _ _;
+      distances-are = h .distances-hold ∙ after-new none _ _;
+      trail-is = h .trail-holds ∙ after-new none _ _;
     }
 
 -- a buffer begins with what was put over it
@@ -124,11 +117,6 @@ narrow-and-wide a wide le {ids} {distances} {trail} {ids′} {distances′} {tra
     }
 
 -- ---- full width on the set's own table
-
--- D between the points of a set is the same both ways
-pub apart-symmetric : (d : ℕ) (vectors : List ℤ) → Symmetric (apart d vectors)
-unfolding apart
-apart-symmetric d vectors u v = dist-comm (coordinates d vectors u) (coordinates d vectors v)
 
 pub exactly-the-nearest : (a : Ask) → a .table ≡ tableOf (apart (a .d) (a .vectors)) (a .n) → a .n ≤ a .width → {ids distances trail ids′ distances′ trail′ : List ℕ} {c : Counts} → SearchCall a ids distances trail (Done c) ids′ distances′ trail′ → Exact a c ids′ distances′
 unfolding nearIds nearDistances searched orderOf edgesOf farness

@@ -11,7 +11,8 @@ use lib.Signed.{mag, leZ}
 use lib.ListN.{length, take, drop}
 use lib.Seq.{take-nil}
 use borrow.Author.Tests.{le-ltb}
-use Rattle.rules.specs.Points.{square, dist}
+use Rattle.rules.specs.Points.{square, dist, coordinates, apart}
+use Rattle.rules.specs.Edges.{Symmetric}
 
 -- ---- D
 
@@ -105,3 +106,8 @@ pub dist-self : (a : List ℤ) → dist a a ≡ 0
 unfolding dist
 dist-self [] = refl
 dist-self (x ∷ a) = rw (+ℤ-invr x, dist-self a)
+
+-- D between the points of a set is the same both ways
+pub apart-symmetric : (d : ℕ) (vectors : List ℤ) → Symmetric (apart d vectors)
+unfolding apart
+apart-symmetric d vectors u v = dist-comm (coordinates d vectors u) (coordinates d vectors v)

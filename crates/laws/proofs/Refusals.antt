@@ -141,3 +141,23 @@ module _ {A : Type 0} where
       go : (r : ℕ) → r ≢ 0 → after r old new ≡ old
       go zero d = absurd (d refl)
       go (suc r) d = refl
+
+  -- an answer that gives something was not refused, and gives that
+  pub outcome-none : (r : ℕ) (a b : A) → outcome r a ≡ gives b → r ≡ 0
+  unfolding outcome
+  outcome-none zero a b e = refl
+  outcome-none (suc r) a b e = let z : _≡_ {A = ℕ} 0 1 = cc in absurd (omega arith)
+
+  pub outcome-value : (r : ℕ) (a b : A) → outcome r a ≡ gives b → a ≡ b
+  unfolding outcome
+  outcome-value zero a b e = cc
+  outcome-value (suc r) a b e = let z : _≡_ {A = ℕ} 0 1 = cc in absurd (omega arith)
+
+  -- an answer that is a refusal has the order's number, which is not 0
+  pub outcome-number : (r : ℕ) (a : A) (x : ℕ) → outcome r a ≡ refused x → (x ≡ r) × (r ≢ 0)
+  unfolding outcome
+  outcome-number zero a x e = let z : _≡_ {A = ℕ} 0 1 = cc in absurd (omega arith)
+  outcome-number (suc r) a x e = (cc, some)
+    where
+      some : suc r ≢ 0
+      some e = omega arith

@@ -13,25 +13,14 @@ use Rattle.rules.specs.Sheet.{Contents, sheet, points, coords, width, askCount,
 use Rattle.rules.specs.Outcome.{Outcome, gives, outcome, over}
 use Rattle.rules.specs.Refusals.{sheetRefusal, vectorsRefusal, oneAskRefusal}
 use Rattle.rules.specs.Entries.{Header, headerAnswer, vectorsAfter, numbersOf, askAnswer, queryAfter, writeRefused, writeAnswer, outputAfter}
-use Rattle.laws.proofs.Refusals.{else-none, outcome-gives, after-new}
+use Rattle.laws.proofs.Refusals.{else-none, outcome-gives, outcome-none, outcome-value, after-new}
 use Rattle.laws.proofs.Asks.{four}
 use Rattle.laws.proofs.Writable.{Writable, writable}
 use Rattle.laws.proofs.RoundTrip.{read-back, sheet-read, write-back, read-writable, write-again}
 use Rattle.laws.proofs.OneAsk.{one-numbers, one-query}
 use Rattle.sheet.specs.AsRead.{AsRead, numbersAt}
 
--- an answer that gives something was not refused, and gives that
 module _ {A : Type 0} where
-  not-refused : (r : ℕ) (a b : A) → outcome r a ≡ gives b → r ≡ 0
-  unfolding outcome
-  not-refused zero a b e = refl
-  not-refused (suc r) a b e = let z : _≡_ {A = ℕ} 0 1 = cc in absurd (omega arith)
-
-  given : (r : ℕ) (a b : A) → outcome r a ≡ gives b → a ≡ b
-  unfolding outcome
-  given zero a b e = cc
-  given (suc r) a b e = let z : _≡_ {A = ℕ} 0 1 = cc in absurd (omega arith)
-
   same-gives : {a b : A} → _≡_ {A = Outcome A} (gives a) (gives b) → a ≡ b
   same-gives e = cc
 
@@ -64,7 +53,7 @@ module _ (ys : List ℕ) (ok : sheetRefusal ys ≡ 0) where
 module _ (k : Contents) (output : List ℕ) (l : ℕ) (wrote : writeAnswer k output ≡ gives l) where
   none : writeRefused k output ≡ 0
   unfolding writeAnswer
-  none = not-refused (writeRefused k output) (length (sheet k)) l wrote
+  none = outcome-none (writeRefused k output) (length (sheet k)) l wrote
 
   can : Writable k
   unfolding writeRefused
@@ -73,7 +62,7 @@ module _ (k : Contents) (output : List ℕ) (l : ℕ) (wrote : writeAnswer k out
   written : take l (outputAfter k output) ≡ sheet k
   unfolding writeAnswer outputAfter over
   written =
-      let n : length (sheet k) ≡ l = given (writeRefused k output) (length (sheet k)) l wrote in
+      let n : length (sheet k) ≡ l = outcome-value (writeRefused k output) (length (sheet k)) l wrote in
       ap₂ take (sym n) (after-new none output (over (sheet k) output)) ∙ take-append-seam (sheet k) (drop (length (sheet k)) output)
 
   pub read-written : AsRead (take l (outputAfter k output)) k
@@ -117,11 +106,11 @@ four-same xs zs e f r =
 module _ (ys : List ℕ) (small : Bytes ys) (k : Contents) (was : AsRead ys k) where
   read : sheetRefusal ys ≡ 0
   unfolding headerAnswer
-  read = not-refused (sheetRefusal ys) _ _ (was .header)
+  read = outcome-none (sheetRefusal ys) _ _ (was .header)
 
   header-is : _≡_ {A = Header} (record { n = points ys; d = coords ys; c = width ys; asks = askCount ys }) (record { n = k .n; d = k .d; c = k .c; asks = k .asks })
   unfolding headerAnswer
-  header-is = given (sheetRefusal ys) _ _ (was .header)
+  header-is = outcome-value (sheetRefusal ys) _ _ (was .header)
 
   n-is : points ys ≡ k .n
   n-is = ap (λ (h : Header). h .n) header-is

@@ -18,7 +18,7 @@ use Rattle.rules.specs.Edges.{Closing, Symmetric}
 use Rattle.rules.specs.Refusals.{walkRefusal}
 use Rattle.rules.specs.Walk.{Walk as Record, walk, walkFrom}
 use Rattle.rules.specs.Entries.{End as Ending, goesTo, stepRefused, recordAfter, ending, endOf, walkAnswer}
-use Rattle.laws.proofs.Distances.{dist-comm, dist-self}
+use Rattle.laws.proofs.Distances.{apart-symmetric, dist-self}
 use Rattle.laws.proofs.Refusals.{outcome-gives}
 use Rattle.laws.proofs.Walk.{step-cases, walk-stays, walk-moves, walk-ends, walk-arrives}
 use Rattle.laws.proofs.Walking.{Passes, passes-start, passes-move, passes-short}
@@ -157,15 +157,11 @@ module _ (n d : ℕ) (vectors : List ℤ) (table : List ℕ) (query : List ℤ) 
   unfolding apart
   apart-self v = dist-self (coordinates d vectors v)
 
-  apart-both : Symmetric (apart d vectors)
-  unfolding apart
-  apart-both u v = dist-comm (coordinates d vectors u) (coordinates d vectors v)
-
   zero-end : Closing (apart d vectors) n edge → (v : ℕ) → v < n → query ≡ coordinates d vectors v → (e : End) → endIn e ≡ endOf n d vectors table query threshold start → e .distance ≡ 0
   unfolding endOf ending
   zero-end closing v l is e q =
       let zero : D v ≡ 0 = from-point v is v ∙ apart-self v in
-      let found = walk-arrives n D edge few (apart d vectors) apart-both closing v l (λ u k. from-point v is u) zero start (known .within) in
+      let found = walk-arrives n D edge few (apart d vectors) (apart-symmetric d vectors) closing v l (λ u k. from-point v is u) zero start (known .within) in
       ap (λ (x : Ending). x .distance) q ∙ found .nearest ∙ zero
 
   -- document 01: where the query is a point, and the table's edges close, the walk ends at D = 0
