@@ -1,5 +1,5 @@
 -- What each public entry promises of one call: its contract, as a record over what was lent, what it answers, and what each lent buffer or record holds
--- afterwards. The demands are stated over these.
+-- afterwards. The demands are stated over these; src/lib.rt shows that they are the contracts.
 use Prim.Native.Nat.{ℕ}
 use mathlib.Core.Path.{_≡_}
 use mathlib.Core.List.{List}
