@@ -2,15 +2,15 @@
 use Prim.Native.Nat.{ℕ, suc, _+_, _<_, min, _≤_}
 use native.Mathlib.Numerals.{add-one}
 use native.Mathlib.Omega.{arith}
-use mathlib.Core.Path.{_≡_, refl, sym, ap, ap₂, _∙_}
+use mathlib.Core.Path.{_≡_, refl, sym, ap, ap₂, subst, _∙_}
 use mathlib.Core.List.{List, [], _∷_, _++_, append-assoc, append-nil}
 use lib.ListN.{length, getD, drop, length-append, drop-of-length-le}
 use lib.Seq.{drop-cons}
-use Rattle.rules.specs.Lines.{decimal, part, parts, pairs, word-set, word-ask, word-found, word-seen, word-walked, word-near, word-trail, word-refused, newline, setLine, foundLine, askRefusedLine, nearLine, trailLine, refusedLine}
+use Rattle.rules.specs.Lines.{decimal, part, parts, pairs, setLine, foundLine, askRefusedLine, refusedLine}
 use mathlib.Core.Logic.{⊎-elim}
 use Rattle.laws.proofs.Tests.{le-or-lt}
 use Rattle.lines.specs.declared.Placed.{Placed}
-use Rattle.lines.specs.Placing.{ending, Digits, PartLength}
+use Rattle.lines.specs.Placing.{ending, Put, Digits, PartLength}
 use Rattle.lines.proofs.Digits.{length-part}
 use Rattle.lines.proofs.Puts.{Begins}
 
@@ -77,39 +77,15 @@ pairs-done ids ds count i q l =
     (λ (h : i < length ids). rw (drop-of-length-le ds {i = i} (omega arith)) (pairs-none (drop i ids)))
     (le-or-lt (length ids) i)
 
--- ---- what the lines begin with, word by word
+-- ---- a pair
 
-module _ (n d asks : ℕ) where
-  pub set-0 : Begins (setLine n d asks) word-set (part n ++ (part d ++ (part asks ++ newline)))
-  unfolding setLine
-  set-0 = record { is = refl }
+module _ (id d : ℕ) where
+  pub pair-0 : Begins (part id ++ part d) (part id) (part d)
+  pair-0 = record { is = refl }
 
-module _ (refusal : ℕ) where
-  pub refused-0 : Begins (refusedLine refusal) word-refused (part refusal ++ newline)
-  unfolding refusedLine
-  refused-0 = record { is = refl }
+  pub pair-1 : Begins (part d) (part d) []
+  pair-1 = record { is = sym (append-nil (part d)) }
 
-module _ (ask refusal : ℕ) where
-  pub ask-refused-0 : Begins (askRefusedLine ask refusal) word-ask (part ask ++ ((32 ∷ word-refused) ++ (part refusal ++ newline)))
-  unfolding askRefusedLine
-  ask-refused-0 = record { is = refl }
-
-module _ (ask found seen walked : ℕ) where
-  pub found-0 : Begins (foundLine ask found seen walked) word-ask (part ask ++ (word-found ++ (part found ++ (word-seen ++ (part seen ++ (word-walked ++ (part walked ++ newline)))))))
-  unfolding foundLine
-  found-0 = record { is = refl }
-
-pub near-0 : (ids ds : List ℕ) → Begins (nearLine ids ds) word-near (pairs ids ds ++ newline)
-unfolding nearLine
-near-0 ids ds = record { is = refl }
-
-pub trail-0 : (ids : List ℕ) → Begins (trailLine ids) word-trail (parts ids ++ newline)
-unfolding trailLine
-trail-0 ids = record { is = refl }
-
--- what is left begins with a
-pub next : (a b : List ℕ) → Begins (a ++ b) a b
-next a b = record { is = refl }
-
-pub last : (a : List ℕ) → Begins a a []
-last a = record { is = sym (append-nil a) }
+-- a number that is known by another name
+pub put-as : (x y : ℕ) {at end : ℕ} {old new : List ℕ} → x ≡ y → Put at (part x) old new end → Put at (part y) old new end
+put-as x y {at} {end} {old} {new} e h = subst (λ (z : ℕ). Put at (part z) old new end) e h

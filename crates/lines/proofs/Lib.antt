@@ -2,3 +2,4 @@ pub mod Digits
 pub mod Puts
 pub mod Ends
 pub mod Lengths
+pub mod Words

@@ -1,3 +1,7 @@
+-- `lines::put::put_ask_refused` meets its contract. Assumes nothing.
+use mathlib.Core.Path.{refl}
+use Rattle.lines.proofs.Puts.{left-start, left-room, left-step, left-end}
+use Rattle.lines.proofs.Words.{ask-refused-0, ask-refused-1, ask-refused-2, ask-refused-3, ask-refused-4}
 use borrow.Author.Needs.{needs}
 use Rattle.lines.proofs.put.put_ask_refused.Statement.{statement}
 use Rattle.lines.proofs.put.put_ask_refused.Tie as tie
@@ -12,11 +16,11 @@ slice-aggregate-put-word c = search needs
 
 -- src/put.rt:114:9
 put-word-requires : tie.Need-put-word-requires
-put-word-requires c κs = ?
+put-word-requires c κs = left-room (left-start (c .before .before .before .args .at) _ (c .before .before .before .args .output .now)) (ask-refused-0 (c .before .before .before .args .ask) (c .before .before .before .args .refusal)) (c .before .before .before .pre)
 
 -- src/put.rt:115:9
 put-part-requires : tie.Need-put-part-requires
-put-part-requires c κs = ?
+put-part-requires c κs = left-room (left-step (left-start (c .before .before .before .before .before .before .before .args .at) _ (c .before .before .before .before .before .before .before .args .output .now)) (ask-refused-0 (c .before .before .before .before .before .before .before .args .ask) (c .before .before .before .before .before .before .before .args .refusal)) (c .before .before .before .before .before .before .before .pre) (c .before .before .before .put-word .ensures)) (ask-refused-1 (c .before .before .before .before .before .before .before .args .ask) (c .before .before .before .before .before .before .before .args .refusal)) (c .before .before .before .before .before .before .before .pre)
 
 -- src/put.rt:116:22
 slice-aggregate-put-word-2 : tie.Need-slice-aggregate-put-word-2
@@ -24,11 +28,11 @@ slice-aggregate-put-word-2 c = search needs
 
 -- src/put.rt:116:9
 put-word-requires-2 : tie.Need-put-word-requires-2
-put-word-requires-2 c κs = ?
+put-word-requires-2 c κs = left-room (left-step (left-step (left-start (c .before .before .before .before .before .before .before .before .before .before .before .before .args .at) _ (c .before .before .before .before .before .before .before .before .before .before .before .before .args .output .now)) (ask-refused-0 (c .before .before .before .before .before .before .before .before .before .before .before .before .args .ask) (c .before .before .before .before .before .before .before .before .before .before .before .before .args .refusal)) (c .before .before .before .before .before .before .before .before .before .before .before .before .pre) (c .before .before .before .before .before .before .before .before .put-word .ensures)) (ask-refused-1 (c .before .before .before .before .before .before .before .before .before .before .before .before .args .ask) (c .before .before .before .before .before .before .before .before .before .before .before .before .args .refusal)) (c .before .before .before .before .before .before .before .before .before .before .before .before .pre) (c .before .before .before .before .put-part .ensures)) (ask-refused-2 (c .before .before .before .before .before .before .before .before .before .before .before .before .args .ask) (c .before .before .before .before .before .before .before .before .before .before .before .before .args .refusal)) (c .before .before .before .before .before .before .before .before .before .before .before .before .pre)
 
 -- src/put.rt:117:9
 put-part-requires-2 : tie.Need-put-part-requires-2
-put-part-requires-2 c κs = ?
+put-part-requires-2 c κs = left-room (left-step (left-step (left-step (left-start (c .before .before .before .before .before .before .before .before .before .before .before .before .before .before .before .before .args .at) _ (c .before .before .before .before .before .before .before .before .before .before .before .before .before .before .before .before .args .output .now)) (ask-refused-0 (c .before .before .before .before .before .before .before .before .before .before .before .before .before .before .before .before .args .ask) (c .before .before .before .before .before .before .before .before .before .before .before .before .before .before .before .before .args .refusal)) (c .before .before .before .before .before .before .before .before .before .before .before .before .before .before .before .before .pre) (c .before .before .before .before .before .before .before .before .before .before .before .before .put-word .ensures)) (ask-refused-1 (c .before .before .before .before .before .before .before .before .before .before .before .before .before .before .before .before .args .ask) (c .before .before .before .before .before .before .before .before .before .before .before .before .before .before .before .before .args .refusal)) (c .before .before .before .before .before .before .before .before .before .before .before .before .before .before .before .before .pre) (c .before .before .before .before .before .before .before .before .put-part .ensures)) (ask-refused-2 (c .before .before .before .before .before .before .before .before .before .before .before .before .before .before .before .before .args .ask) (c .before .before .before .before .before .before .before .before .before .before .before .before .before .before .before .before .args .refusal)) (c .before .before .before .before .before .before .before .before .before .before .before .before .before .before .before .before .pre) (c .before .before .before .put-word2 .ensures)) (ask-refused-3 (c .before .before .before .before .before .before .before .before .before .before .before .before .before .before .before .before .args .ask) (c .before .before .before .before .before .before .before .before .before .before .before .before .before .before .before .before .args .refusal)) (c .before .before .before .before .before .before .before .before .before .before .before .before .before .before .before .before .pre)
 
 -- src/put.rt:118:14
 slice-aggregate-put-word-3 : tie.Need-slice-aggregate-put-word-3
@@ -36,7 +40,7 @@ slice-aggregate-put-word-3 c = search needs
 
 -- src/put.rt:118:5
 put-word-requires-3 : tie.Need-put-word-requires-3
-put-word-requires-3 c κs = ?
+put-word-requires-3 c κs = left-room (left-step (left-step (left-step (left-step (left-start (c .before .before .before .before .before .before .before .before .before .before .before .before .before .before .before .before .before .before .before .before .before .args .at) _ (c .before .before .before .before .before .before .before .before .before .before .before .before .before .before .before .before .before .before .before .before .before .args .output .now)) (ask-refused-0 (c .before .before .before .before .before .before .before .before .before .before .before .before .before .before .before .before .before .before .before .before .before .args .ask) (c .before .before .before .before .before .before .before .before .before .before .before .before .before .before .before .before .before .before .before .before .before .args .refusal)) (c .before .before .before .before .before .before .before .before .before .before .before .before .before .before .before .before .before .before .before .before .before .pre) (c .before .before .before .before .before .before .before .before .before .before .before .before .before .before .before .before .before .put-word .ensures)) (ask-refused-1 (c .before .before .before .before .before .before .before .before .before .before .before .before .before .before .before .before .before .before .before .before .before .args .ask) (c .before .before .before .before .before .before .before .before .before .before .before .before .before .before .before .before .before .before .before .before .before .args .refusal)) (c .before .before .before .before .before .before .before .before .before .before .before .before .before .before .before .before .before .before .before .before .before .pre) (c .before .before .before .before .before .before .before .before .before .before .before .before .before .put-part .ensures)) (ask-refused-2 (c .before .before .before .before .before .before .before .before .before .before .before .before .before .before .before .before .before .before .before .before .before .args .ask) (c .before .before .before .before .before .before .before .before .before .before .before .before .before .before .before .before .before .before .before .before .before .args .refusal)) (c .before .before .before .before .before .before .before .before .before .before .before .before .before .before .before .before .before .before .before .before .before .pre) (c .before .before .before .before .before .before .before .before .put-word2 .ensures)) (ask-refused-3 (c .before .before .before .before .before .before .before .before .before .before .before .before .before .before .before .before .before .before .before .before .before .args .ask) (c .before .before .before .before .before .before .before .before .before .before .before .before .before .before .before .before .before .before .before .before .before .args .refusal)) (c .before .before .before .before .before .before .before .before .before .before .before .before .before .before .before .before .before .before .before .before .before .pre) (c .before .before .before .before .put-part2 .ensures)) (ask-refused-4 (c .before .before .before .before .before .before .before .before .before .before .before .before .before .before .before .before .before .before .before .before .before .args .ask) (c .before .before .before .before .before .before .before .before .before .before .before .before .before .before .before .before .before .before .before .before .before .args .refusal)) (c .before .before .before .before .before .before .before .before .before .before .before .before .before .before .before .before .before .before .before .before .before .pre)
 
 -- src/put.rt:110:1
 same-length : tie.Need-same-length
@@ -44,7 +48,7 @@ same-length c = search needs
 
 -- src/put.rt:110:1
 returns : tie.Need-returns
-returns c = ?
+returns c = left-end (left-step (left-step (left-step (left-step (left-step (left-start (c .before .before .before .before .before .before .before .before .before .before .before .before .before .before .before .before .before .before .before .before .before .before .before .before .args .at) _ (c .before .before .before .before .before .before .before .before .before .before .before .before .before .before .before .before .before .before .before .before .before .before .before .before .args .output .now)) (ask-refused-0 (c .before .before .before .before .before .before .before .before .before .before .before .before .before .before .before .before .before .before .before .before .before .before .before .before .args .ask) (c .before .before .before .before .before .before .before .before .before .before .before .before .before .before .before .before .before .before .before .before .before .before .before .before .args .refusal)) (c .before .before .before .before .before .before .before .before .before .before .before .before .before .before .before .before .before .before .before .before .before .before .before .before .pre) (c .before .before .before .before .before .before .before .before .before .before .before .before .before .before .before .before .before .before .before .before .put-word .ensures)) (ask-refused-1 (c .before .before .before .before .before .before .before .before .before .before .before .before .before .before .before .before .before .before .before .before .before .before .before .before .args .ask) (c .before .before .before .before .before .before .before .before .before .before .before .before .before .before .before .before .before .before .before .before .before .before .before .before .args .refusal)) (c .before .before .before .before .before .before .before .before .before .before .before .before .before .before .before .before .before .before .before .before .before .before .before .before .pre) (c .before .before .before .before .before .before .before .before .before .before .before .before .before .before .before .before .put-part .ensures)) (ask-refused-2 (c .before .before .before .before .before .before .before .before .before .before .before .before .before .before .before .before .before .before .before .before .before .before .before .before .args .ask) (c .before .before .before .before .before .before .before .before .before .before .before .before .before .before .before .before .before .before .before .before .before .before .before .before .args .refusal)) (c .before .before .before .before .before .before .before .before .before .before .before .before .before .before .before .before .before .before .before .before .before .before .before .before .pre) (c .before .before .before .before .before .before .before .before .before .before .before .put-word2 .ensures)) (ask-refused-3 (c .before .before .before .before .before .before .before .before .before .before .before .before .before .before .before .before .before .before .before .before .before .before .before .before .args .ask) (c .before .before .before .before .before .before .before .before .before .before .before .before .before .before .before .before .before .before .before .before .before .before .before .before .args .refusal)) (c .before .before .before .before .before .before .before .before .before .before .before .before .before .before .before .before .before .before .before .before .before .before .before .before .pre) (c .before .before .before .before .before .before .before .put-part2 .ensures)) (ask-refused-4 (c .before .before .before .before .before .before .before .before .before .before .before .before .before .before .before .before .before .before .before .before .before .before .before .before .args .ask) (c .before .before .before .before .before .before .before .before .before .before .before .before .before .before .before .before .before .before .before .before .before .before .before .before .args .refusal)) (c .before .before .before .before .before .before .before .before .before .before .before .before .before .before .before .before .before .before .before .before .before .before .before .before .pre) (c .before .before .put-word3 .ensures)) refl
 
 pub put-ask-refused-spec : {M : Type 1} → statement M
 put-ask-refused-spec =

@@ -1,3 +1,7 @@
+-- `lines::put::put_refused` meets its contract. Assumes nothing.
+use mathlib.Core.Path.{refl}
+use Rattle.lines.proofs.Puts.{left-start, left-room, left-step, left-end}
+use Rattle.lines.proofs.Words.{refused-0, refused-1, refused-2}
 use borrow.Author.Needs.{needs}
 use Rattle.lines.proofs.put.put_refused.Statement.{statement}
 use Rattle.lines.proofs.put.put_refused.Tie as tie
@@ -12,11 +16,11 @@ slice-aggregate-put-word c = search needs
 
 -- src/put.rt:105:9
 put-word-requires : tie.Need-put-word-requires
-put-word-requires c κs = ?
+put-word-requires c κs = left-room (left-start (c .before .before .before .args .at) _ (c .before .before .before .args .output .now)) (refused-0 (c .before .before .before .args .refusal)) (c .before .before .before .pre)
 
 -- src/put.rt:106:9
 put-part-requires : tie.Need-put-part-requires
-put-part-requires c κs = ?
+put-part-requires c κs = left-room (left-step (left-start (c .before .before .before .before .before .before .before .args .at) _ (c .before .before .before .before .before .before .before .args .output .now)) (refused-0 (c .before .before .before .before .before .before .before .args .refusal)) (c .before .before .before .before .before .before .before .pre) (c .before .before .before .put-word .ensures)) (refused-1 (c .before .before .before .before .before .before .before .args .refusal)) (c .before .before .before .before .before .before .before .pre)
 
 -- src/put.rt:107:14
 slice-aggregate-put-word-2 : tie.Need-slice-aggregate-put-word-2
@@ -24,7 +28,7 @@ slice-aggregate-put-word-2 c = search needs
 
 -- src/put.rt:107:5
 put-word-requires-2 : tie.Need-put-word-requires-2
-put-word-requires-2 c κs = ?
+put-word-requires-2 c κs = left-room (left-step (left-step (left-start (c .before .before .before .before .before .before .before .before .before .before .before .before .args .at) _ (c .before .before .before .before .before .before .before .before .before .before .before .before .args .output .now)) (refused-0 (c .before .before .before .before .before .before .before .before .before .before .before .before .args .refusal)) (c .before .before .before .before .before .before .before .before .before .before .before .before .pre) (c .before .before .before .before .before .before .before .before .put-word .ensures)) (refused-1 (c .before .before .before .before .before .before .before .before .before .before .before .before .args .refusal)) (c .before .before .before .before .before .before .before .before .before .before .before .before .pre) (c .before .before .before .before .put-part .ensures)) (refused-2 (c .before .before .before .before .before .before .before .before .before .before .before .before .args .refusal)) (c .before .before .before .before .before .before .before .before .before .before .before .before .pre)
 
 -- src/put.rt:101:1
 same-length : tie.Need-same-length
@@ -32,7 +36,7 @@ same-length c = search needs
 
 -- src/put.rt:101:1
 returns : tie.Need-returns
-returns c = ?
+returns c = left-end (left-step (left-step (left-step (left-start (c .before .before .before .before .before .before .before .before .before .before .before .before .before .before .before .args .at) _ (c .before .before .before .before .before .before .before .before .before .before .before .before .before .before .before .args .output .now)) (refused-0 (c .before .before .before .before .before .before .before .before .before .before .before .before .before .before .before .args .refusal)) (c .before .before .before .before .before .before .before .before .before .before .before .before .before .before .before .pre) (c .before .before .before .before .before .before .before .before .before .before .before .put-word .ensures)) (refused-1 (c .before .before .before .before .before .before .before .before .before .before .before .before .before .before .before .args .refusal)) (c .before .before .before .before .before .before .before .before .before .before .before .before .before .before .before .pre) (c .before .before .before .before .before .before .before .put-part .ensures)) (refused-2 (c .before .before .before .before .before .before .before .before .before .before .before .before .before .before .before .args .refusal)) (c .before .before .before .before .before .before .before .before .before .before .before .before .before .before .before .pre) (c .before .before .put-word2 .ensures)) refl
 
 pub put-refused-spec : {M : Type 1} → statement M
 put-refused-spec =
