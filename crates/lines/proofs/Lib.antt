@@ -3,3 +3,4 @@ pub mod Puts
 pub mod Ends
 pub mod Lengths
 pub mod Words
+pub mod Three

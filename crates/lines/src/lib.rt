@@ -59,7 +59,14 @@ pub fn refused_line(refusal: usize, output: &mut [u8], at: usize) -> Placed
 }
 
 // ask I found F seen S walked W
-pub fn found_line(ask: usize, found: usize, seen: usize, walked: usize, output: &mut [u8], at: usize) -> Placed
+pub fn found_line(
+    ask: usize,
+    found: usize,
+    seen: usize,
+    walked: usize,
+    output: &mut [u8],
+    at: usize,
+) -> Placed
     ensures answer { λ r. ⌜ r ≡ placedAnswer at (foundLine ask found seen walked) (now (output .entry)) ⌝ }
     ensures output { λ r. ⌜ now (output .exit) ≡ placedAfter at (foundLine ask found seen walked) (now (output .entry)) ⌝ }
 {
@@ -115,7 +122,7 @@ pub fn answer_lines(
     let Placed::End(_) = measure::trail_end(trail, path, output.len()) else {
         return Placed::Short;
     };
-    put::put_found(ask, found, seen, walked, output, at);
-    put::put_near(ids, distances, output, near);
-    Placed::End(put::put_trail(trail, output, path))
+    let second = put::put_found(ask, found, seen, walked, output, at);
+    let third = put::put_near(ids, distances, output, second);
+    Placed::End(put::put_trail(trail, output, third))
 }

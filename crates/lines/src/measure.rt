@@ -55,7 +55,11 @@ pub(crate) fn advance(at: usize, length: usize, limit: usize) -> Placed
 pub(crate) fn set_end(n: usize, d: usize, asks: usize, at: usize, limit: usize) -> Placed
     ensures { λ r. ⌜ r ≡ ending at (length (setLine n d asks)) limit ⌝ }
 {
-    advance(at, 4 + part_length(n) + part_length(d) + part_length(asks), limit)
+    advance(
+        at,
+        4 + part_length(n) + part_length(d) + part_length(asks),
+        limit,
+    )
 }
 
 pub(crate) fn ask_refused_end(ask: usize, refusal: usize, at: usize, limit: usize) -> Placed
@@ -70,10 +74,21 @@ pub(crate) fn refused_end(refusal: usize, at: usize, limit: usize) -> Placed
     advance(at, 8 + part_length(refusal), limit)
 }
 
-pub(crate) fn found_end(ask: usize, found: usize, seen: usize, walked: usize, at: usize, limit: usize) -> Placed
+pub(crate) fn found_end(
+    ask: usize,
+    found: usize,
+    seen: usize,
+    walked: usize,
+    at: usize,
+    limit: usize,
+) -> Placed
     ensures { λ r. ⌜ r ≡ ending at (length (foundLine ask found seen walked)) limit ⌝ }
 {
-    advance(at, 22 + part_length(ask) + part_length(found) + part_length(seen) + part_length(walked), limit)
+    advance(
+        at,
+        22 + part_length(ask) + part_length(found) + part_length(seen) + part_length(walked),
+        limit,
+    )
 }
 
 fn parts_end(ids: &[u16], at: usize, limit: usize) -> Placed
@@ -94,7 +109,11 @@ fn parts_end(ids: &[u16], at: usize, limit: usize) -> Placed
 fn pair_end(id: u16, distance: u32, at: usize, limit: usize) -> Placed
     ensures { λ r. ⌜ r ≡ ending at (length (part id ++ part distance)) limit ⌝ }
 {
-    advance(at, part_length(wide(id)) + part_length(wider(distance)), limit)
+    advance(
+        at,
+        part_length(wide(id)) + part_length(wider(distance)),
+        limit,
+    )
 }
 
 fn pairs_end(ids: &[u16], distances: &[u32], at: usize, limit: usize) -> Placed

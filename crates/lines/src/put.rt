@@ -1,5 +1,8 @@
 // Writing words, numbers and lines where there is room for them. Each function answers the place after what it wrote.
-use crate::measure::{digits, fewer, wide, wider};
+use crate::measure::digits;
+use crate::measure::fewer;
+use crate::measure::wide;
+use crate::measure::wider;
 ghost use mathlib.Core.Path.{_≡_};
 ghost use Prim.Native.Nat.{_+_, _%_, _≤_};
 ghost use mathlib.Core.List.{_++_};
@@ -118,7 +121,14 @@ pub(crate) fn put_ask_refused(ask: usize, refusal: usize, output: &mut [u8], at:
     put_word(b"\n", output, e)
 }
 
-pub(crate) fn put_found(ask: usize, found: usize, seen: usize, walked: usize, output: &mut [u8], at: usize) -> usize
+pub(crate) fn put_found(
+    ask: usize,
+    found: usize,
+    seen: usize,
+    walked: usize,
+    output: &mut [u8],
+    at: usize,
+) -> usize
     requires { ⌜ at + length (foundLine ask found seen walked) ≤ length (now output) ⌝ }
     ensures { λ r. ⌜ Put at (foundLine ask found seen walked) (now (output .entry)) (now (output .exit)) r ⌝ }
 {
