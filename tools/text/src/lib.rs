@@ -9,6 +9,7 @@
 
 pub mod command;
 pub mod content;
+mod field;
 pub mod graph;
 pub mod picture;
 pub mod svg;
