@@ -1,10 +1,12 @@
 // Seeing points and visiting them, until the stop. A flag is 0 for a point that is not seen, 1 for one that waits, 2 for one on the trail.
 use crate::line;
+use crate::rows;
 ghost use mathlib.Core.Path.{_≡_};
 ghost use mathlib.Core.Bool.{Bool, true};
 ghost use Prim.Native.Nat.{ℕ, _+_, _*_, _<_, _≤_, min};
 ghost use lib.ListN.{length, getD, set, take, drop};
 ghost use Rattle.search.specs.Line.{waits};
+ghost use Rattle.search.specs.Rows.{Part};
 ghost use Rattle.search.specs.Seen.{Given, keyOf, Lined, looked, Marked, Visited, goesOn, Explored};
 
 // How many points are seen, and a place of the line before which no point waits.
@@ -89,6 +91,76 @@ fn look(
     front
 }
 
+// Looks at the cells of a row from `from` up to `end`, one by one.
+fn scan(
+    n: usize,
+    d: usize,
+    vectors: &[i8],
+    query: &[i8],
+    row: &[u16],
+    threshold: u16,
+    from: usize,
+    end: usize,
+    start: Front,
+    flags: &mut [u8],
+    line: &mut [u32],
+) -> Front
+    requires given { ⌜ Given n d (now vectors) (now query) ⌝ }
+    requires lined { ⌜ Lined n (keyOf d (now vectors) (now query)) (now flags) (now line) (start .seen) (start .from) ⌝ }
+    requires row { ⌜ (from ≤ end) × (end ≤ n) × (length (now row) ≡ n) ⌝ }
+    ensures { λ r. ⌜ Part (now (row .entry)) threshold (now (flags .entry)) from end (now (flags .exit))
+        × Lined n (keyOf d (now (vectors .entry)) (now (query .entry))) (now (flags .exit)) (now (line .exit)) (r .seen) (r .from) ⌝ }
+{
+    let mut front = start;
+    let mut id = from;
+    while id < end {
+        front = look(n, d, vectors, query, row, threshold, id, front, flags, line);
+        id += 1;
+    }
+    front
+}
+
+// The same. A block of 16 cells that leads to no new point is left out: each other one has a point that becomes seen, so there are fewer than n of these
+// in a search.
+fn block(
+    n: usize,
+    d: usize,
+    vectors: &[i8],
+    query: &[i8],
+    row: &[u16],
+    threshold: u16,
+    from: usize,
+    end: usize,
+    front: Front,
+    flags: &mut [u8],
+    line: &mut [u32],
+) -> Front
+    requires given { ⌜ Given n d (now vectors) (now query) ⌝ }
+    requires lined { ⌜ Lined n (keyOf d (now vectors) (now query)) (now flags) (now line) (front .seen) (front .from) ⌝ }
+    requires row { ⌜ (from ≤ end) × (end ≤ n) × (length (now row) ≡ n) ⌝ }
+    ensures { λ r. ⌜ Part (now (row .entry)) threshold (now (flags .entry)) from end (now (flags .exit))
+        × Lined n (keyOf d (now (vectors .entry)) (now (query .entry))) (now (flags .exit)) (now (line .exit)) (r .seen) (r .from) ⌝ }
+{
+    if end - from == 16 {
+        if threshold < rows::sixteen(row, flags, from) {
+            return front;
+        }
+    }
+    scan(
+        n,
+        d,
+        vectors,
+        query,
+        row,
+        threshold,
+        from,
+        end,
+        front,
+        flags,
+        line,
+    )
+}
+
 // All points with an edge in a row become seen.
 fn follow(
     n: usize,
@@ -110,8 +182,21 @@ fn follow(
     let mut front = start;
     let mut id = 0;
     while id < n {
-        front = look(n, d, vectors, query, row, threshold, id, front, flags, line);
-        id += 1;
+        let end = smaller(n - id, 16) + id;
+        front = block(
+            n,
+            d,
+            vectors,
+            query,
+            row,
+            threshold,
+            id,
+            end,
+            front,
+            flags,
+            line,
+        );
+        id = end;
     }
     front
 }

@@ -13,6 +13,7 @@ ghost use Rattle.search.specs.Answer.{told, idOf, distanceOf};
 
 mod explore;
 mod line;
+mod rows;
 
 // How many points were found, seen and walked.
 pub struct Counts {
