@@ -24,7 +24,7 @@ use Rattle.sheet.proofs.Told.{write-told, head-told, ask-told}
 use Rattle.demands.specs.Calls.{PointCall, DistanceCall, BuildCall, SearchCall, StepCall, WalkCall, WriteCall, HeaderCall, VectorsCall, AskCall}
 
 -- the one lemma: what equals the same is equal
-one : {A : Type 0} {x y z : A} → x ≡ z → y ≡ z → x ≡ y
+pub one : {A : Type 0} {x y z : A} → x ≡ z → y ≡ z → x ≡ y
 one p q = p ∙ sym q
 
 -- the search's answer in the rules' terms loses nothing

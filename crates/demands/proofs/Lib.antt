@@ -3,4 +3,5 @@ pub mod Demand1
 pub mod Demand3
 pub mod Demand2
 pub mod Fixed
+pub mod Others
 pub mod Shown
