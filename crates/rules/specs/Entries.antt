@@ -1,4 +1,5 @@
--- What each public entry answers, and what it leaves in each lent buffer and record: document 01's rules over lent input, refusals first.
+-- Document 01, "What each stated result has to fix": "Every public function states its result for all input, refusals too, and every lent cell and record
+-- afterwards." Here is what each entry answers, and what it leaves in each lent buffer and record: the rules over lent input, refusals first.
 use Prim.Native.Nat.{ℕ, zero, suc}
 use mathlib.Core.Bool.{Bool, true, false}
 use mathlib.Core.Option.{Option}
