@@ -1,6 +1,6 @@
 -- Document 01, "What is built": "“Order from q” means smaller D to q first, and at equal D the lower id."
 -- The ids are 0 .. n - 1. A set of ids is a test, of which only the ids below n are looked at. The order is that of a number for each id, its key:
--- for document 01's order D × 128 + id. `Keyed` in the proofs shows that this number says the same as the words.
+-- for document 01's order D × 128 + id. `laws` Keyed shows that this number says the same as the words.
 use Prim.Native.Nat.{ℕ, zero, suc, _+_, _*_, _≤_, _<_, min}
 use mathlib.Core.Path.{_≡_}
 use mathlib.Core.Bool.{Bool, true, false, cond, not, _&&_, _||_}
