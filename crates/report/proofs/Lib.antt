@@ -1,0 +1,3 @@
+pub mod Asked
+pub mod Pages
+pub mod Sheets
