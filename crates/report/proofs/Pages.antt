@@ -1,7 +1,7 @@
 -- Lines placed one after the other on a page. Assumes nothing.
 use Prim.Native.Nat.{ℕ, zero, suc, _+_, _≤_, _<_}
 use native.Mathlib.Omega.{arith}
-use mathlib.Core.Path.{_≡_, refl, sym, ap, _∙_}
+use mathlib.Core.Path.{_≡_, refl, sym, ap, subst, _∙_}
 use mathlib.Core.Logic.{⊎-elim}
 use mathlib.Core.Bool.{true, false}
 use mathlib.Core.List.{List, [], _∷_, _++_, append-assoc, append-nil}
@@ -96,3 +96,7 @@ paged-front {l} {old} {new} {next} x =
     let f = ended 0 (length l) (length old) (x .answers) in
     let n : next ≡ length l = omega (arith, f .1) in
     (omega (arith, x .size, f .0, f .1), ap (take next) (x .holds (f .0)) ∙ take-at l (drop (0 + length l) old) next (sym n))
+
+-- the answer by another name
+pub paged-told : {at : ℕ} {l old new : List ℕ} {r r′ : Placed} → r ≡ r′ → Paged at l old new r → Paged at l old new r′
+paged-told {at} {l} {old} {new} e x = subst (λ (p : Placed). Paged at l old new p) e x

@@ -21,9 +21,8 @@ use Rattle.rules.specs.Lines.{setLine, refusedLine}
 use Rattle.rules.specs.Program.{askOf, linesOf, asksLines, printed}
 use Rattle.laws.proofs.Tests.{le-or-lt}
 use Rattle.laws.proofs.Bits.{length-values}
+use Rattle.laws.proofs.Fields.{points-small, coords-small}
 use Rattle.laws.proofs.Refusals.{else-none, skipped, outcome-gives, outcome-refused, after-new}
-use Rattle.sheet.specs.Answers.{headOf}
-use Rattle.sheet.proofs.Reading.{head-small}
 use Rattle.lines.specs.declared.Placed.{Placed}
 use Rattle.lines.specs.declared.Placed.the-variants.{Short, End}
 use Rattle.report.specs.Pages.{Paged, SheetGiven}
@@ -32,20 +31,6 @@ use Rattle.report.proofs.Pages.{paged, paged-none, paged-more, paged-sh
 -- ---- the header's numbers
 
 module _ (ys : List ℕ) where
-  pub points-some : 1 ≤ points ys
-  unfolding points
-  points-some = omega arith
-
-  pub coords-some : 1 ≤ coords ys
-  unfolding coords
-  coords-some = omega arith
-
-  pub points-few : points ys ≤ 128
-  points-few = head-small ys (headOf ys) refl .0
-
-  pub coords-few : coords ys ≤ 64
-  coords-few = head-small ys (headOf ys) refl .1
-
   pub asks-few : sheetRefusal ys ≡ 0 → askCount ys ≤ 127
   unfolding sheetRefusal
   asks-few e =
@@ -133,16 +118,16 @@ module _ {ys : List ℕ} {n d : ℕ} {vectors : List ℤ} (h : SheetGiven ys n d
       ∙ rw (h .n-is, h .d-is, h .vectors-are)
     where
       n1 : 1 ≤ n
-      n1 = rw (h .n-is) (points-some ys)
+      n1 = rw (h .n-is) (points-small ys .0)
 
       n2 : n ≤ 128
-      n2 = rw (h .n-is) (points-few ys)
+      n2 = rw (h .n-is) (points-small ys .1)
 
       d1 : 1 ≤ d
-      d1 = rw (h .d-is) (coords-some ys)
+      d1 = rw (h .d-is) (coords-small ys .0)
 
       d2 : d ≤ 64
-      d2 = rw (h .d-is) (coords-few ys)
+      d2 = rw (h .d-is) (coords-small ys .1)
 
       v : length vectors ≡ n * d
       v = rw (h .n-is, h .d-is, h .vectors-are) (vectors-long ys)
@@ -188,8 +173,8 @@ module _ (ys : List ℕ) where
       record {
         given = record { readable = g .0; n-is = en; d-is = ed; vectors-are = refl };
         asks-are = ap (λ (x : Header). x .asks) (g .1);
-        few-points = rw en (points-few ys);
-        few-coordinates = rw ed (coords-few ys);
+        few-points = rw en (points-small ys .1);
+        few-coordinates = rw ed (coords-small ys .1);
       }
 
 -- the `set` line, and then the asks' lines on the set's own table

@@ -93,7 +93,12 @@ pub fn ask_lines(
         &mut trail,
     );
     match searched {
-        Searched::Refused(refusal) => lines::ask_refused_line(wide(number), wide8(refusal), output, at),
+        Searched::Refused(refusal) => lines::ask_refused_line(
+            wide(number),
+            wide8(refusal),
+            output,
+            at,
+        ),
         Searched::Done(counts) => found_lines(
             wide(number),
             counts.found,
@@ -133,7 +138,18 @@ fn sheet_ask(
             k,
             threshold,
         } => ask_lines(
-            number, n, d, vectors, table, query, start, threshold, width, k, page, at,
+            number,
+            n,
+            d,
+            vectors,
+            table,
+            query,
+            start,
+            threshold,
+            width,
+            k,
+            page,
+            at,
         ),
     }
 }
@@ -157,7 +173,8 @@ fn asks_lines(
     let mut end = at;
     let mut i = 0;
     while i < asks {
-        let Placed::End(next) = sheet_ask(sheet, i as u16, n, d, vectors, table, query, page, end) else {
+        let Placed::End(next) = sheet_ask(sheet, i as u16, n, d, vectors, table, query, page, end)
+        else {
             return Placed::Short;
         };
         end = next;
@@ -218,14 +235,21 @@ fn fill(sheet: &[u8], page: &mut [u8]) -> Placed
     }
 }
 
-// All that the program prints for a sheet.
+// A page with room for the lines of any sheet.
+fn page() -> [u8; 270000]
+    ensures { λ r. ⌜ length r ≡ 270000 ⌝ }
+{
+    [0; 270000]
+}
+
+// All that the program prints for a sheet. It is put together on a page first, so that an output that is too short keeps all it held.
 pub fn print(sheet: &[u8], output: &mut [u8], at: usize) -> Placed
     ensures answer { λ r. ⌜ r ≡ placedAnswer at (printed (now (sheet .entry))) (now (output .entry)) ⌝ }
     ensures output { λ r. ⌜ now (output .exit) ≡ placedAfter at (printed (now (sheet .entry))) (now (output .entry)) ⌝ }
 {
-    let mut page = [0u8; 270000];
-    let Placed::End(end) = fill(sheet, &mut page) else {
+    let mut lines = page();
+    let Placed::End(end) = fill(sheet, &mut lines) else {
         return Placed::Short;
     };
-    lines::place(&page[..end], output, at)
+    lines::place(&lines[..end], output, at)
 }
