@@ -1,0 +1,4 @@
+pub mod Asked
+pub mod Pages
+pub mod Sheets
+pub mod Bounds

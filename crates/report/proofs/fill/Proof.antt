@@ -1,0 +1,112 @@
+-- `report::fill` meets its contract. Assumes nothing.
+use lib.Seq.{length-take-le}
+use mathlib.Core.Path.{sym, ap, _∙_}
+use Rattle.laws.proofs.Refusals.{small-product, small-square}
+use Rattle.sheet.specs.Answers.{headTold}
+use Rattle.report.proofs.Pages.{paged}
+use Rattle.report.proofs.Sheets.{sheet-refused, sheet-headed}
+use native.Mathlib.Omega.{arith}
+use borrow.Author.Needs.{needs}
+use Rattle.report.proofs.fill.Statement.{statement}
+use Rattle.report.proofs.fill.Tie as tie
+use Rattle.report.proofs.fill.Reads as reads
+use Rattle.report.proofs.fill.Lts as lts
+use Rattle.lines.proofs.refused_line.Reads as refused-line-reads
+use Rattle.report.proofs.set_lines.Reads as set-lines-reads
+use Rattle.report.proofs.wide8.Reads as wide8-reads
+use Rattle.sheet.proofs.header.Reads as header-reads
+
+-- src/lib.rt:196:9
+header-requires : tie.Need-header-requires
+header-requires c κs = search needs
+
+-- src/lib.rt:198:25
+enum-known-headed : tie.Need-enum-known-headed
+enum-known-headed c = search needs
+
+-- src/lib.rt:198:57
+wide8-requires : tie.Need-wide8-requires
+wide8-requires c κs = search needs
+
+-- src/lib.rt:198:37
+refused-line-requires : tie.Need-refused-line-requires
+refused-line-requires c κs = search needs
+
+-- src/lib.rt:199:23
+enum-known-headed-2 : tie.Need-enum-known-headed-2
+enum-known-headed-2 c = search needs
+
+-- src/lib.rt:205:25
+mul-cells : tie.Need-mul-cells
+mul-cells c = let h = sheet-headed (c .before .before .before .before .before .before .args .sheet .now) _ _ _ _ (ap headTold (sym (c .before .headed2 .given .1)) ∙ c .before .before .before .header .ensures) in omega (arith, small-product _ _ (h .few-points) (h .few-coordinates))
+
+-- src/lib.rt:206:26
+mul-square : tie.Need-mul-square
+mul-square c = let h = sheet-headed (c .before .before .before .before .before .before .args .sheet .now) _ _ _ _ (ap headTold (sym (c .before .headed2 .given .1)) ∙ c .before .before .before .header .ensures) in omega (arith, small-square _ (h .few-points))
+
+-- src/lib.rt:212:17
+array-borrow-prefix-vectors : tie.Need-array-borrow-prefix-vectors
+array-borrow-prefix-vectors c = let h = sheet-headed (c .before .before .before .before .before .before .args .sheet .now) _ _ _ _ (ap headTold (sym (c .before .headed2 .given .1)) ∙ c .before .before .before .header .ensures) in omega (arith, small-product _ _ (h .few-points) (h .few-coordinates))
+
+-- src/lib.rt:212:17
+slice-aggregate-set-lines : tie.Need-slice-aggregate-set-lines
+slice-aggregate-set-lines c = let h = sheet-headed (c .before .before .before .before .before .before .before .args .sheet .now) _ _ _ _ (ap headTold (sym (c .before .before .headed2 .given .1)) ∙ c .before .before .before .before .header .ensures) in sym (length-take-le _ _ (small-product _ _ (h .few-points) (h .few-coordinates)))
+
+-- src/lib.rt:213:17
+array-borrow-prefix-table : tie.Need-array-borrow-prefix-table
+array-borrow-prefix-table c = let h = sheet-headed (c .before .before .before .before .before .before .before .args .sheet .now) _ _ _ _ (ap headTold (sym (c .before .before .headed2 .given .1)) ∙ c .before .before .before .before .header .ensures) in omega (arith, small-square _ (h .few-points))
+
+-- src/lib.rt:213:17
+slice-aggregate-set-lines-2 : tie.Need-slice-aggregate-set-lines-2
+slice-aggregate-set-lines-2 c = let h = sheet-headed (c .before .before .before .before .before .before .before .before .args .sheet .now) _ _ _ _ (ap headTold (sym (c .before .before .before .headed2 .given .1)) ∙ c .before .before .before .before .before .header .ensures) in sym (length-take-le _ _ (small-square _ (h .few-points)))
+
+-- src/lib.rt:214:17
+array-borrow-prefix-query : tie.Need-array-borrow-prefix-query
+array-borrow-prefix-query c = let h = sheet-headed (c .before .before .before .before .before .before .before .before .args .sheet .now) _ _ _ _ (ap headTold (sym (c .before .before .before .headed2 .given .1)) ∙ c .before .before .before .before .before .header .ensures) in omega (arith, h .few-coordinates)
+
+-- src/lib.rt:214:17
+slice-aggregate-set-lines-3 : tie.Need-slice-aggregate-set-lines-3
+slice-aggregate-set-lines-3 c = let h = sheet-headed (c .before .before .before .before .before .before .before .before .before .args .sheet .now) _ _ _ _ (ap headTold (sym (c .before .before .before .before .headed2 .given .1)) ∙ c .before .before .before .before .before .before .header .ensures) in sym (length-take-le _ _ (h .few-coordinates))
+
+-- src/lib.rt:207:13
+set-lines-requires : tie.Need-set-lines-requires
+set-lines-requires c κs = let h = sheet-headed (c .before .before .before .before .before .before .before .before .before .before .args .sheet .now) _ _ _ _ (ap headTold (sym (c .before .before .before .before .before .headed2 .given .1)) ∙ c .before .before .before .before .before .before .before .header .ensures) in (h .given, (h .asks-are, length-take-le _ _ (small-product _ _ (h .few-points) (h .few-coordinates)), length-take-le _ _ (small-square _ (h .few-points)), length-take-le _ _ (h .few-coordinates)))
+
+-- src/lib.rt:193:1
+same-length : tie.Need-same-length
+same-length c = search needs
+
+-- src/lib.rt:193:1
+returns : tie.Need-returns
+returns c = paged _ _ _ _ (sheet-refused _ _ _ (ap headTold (sym (c .before .before .before .before .before .before .headed .given .1)) ∙ c .before .before .before .before .before .before .before .before .header .ensures) (c .before .before .before .before .wide8 .ensures)) (c .before .before .refused-line .ensures)
+
+-- src/lib.rt:193:1
+same-length-2 : tie.Need-same-length-2
+same-length-2 c = search needs
+
+-- src/lib.rt:193:1
+returns-2 : tie.Need-returns-2
+returns-2 c = search needs
+
+pub fill-spec : {M : Type 1} → statement M
+fill-spec =
+    tie.close
+    (tie.spec
+    header-requires
+    enum-known-headed
+    wide8-requires
+    refused-line-requires
+    enum-known-headed-2
+    mul-cells
+    mul-square
+    array-borrow-prefix-vectors
+    slice-aggregate-set-lines
+    array-borrow-prefix-table
+    slice-aggregate-set-lines-2
+    array-borrow-prefix-query
+    slice-aggregate-set-lines-3
+    set-lines-requires
+    same-length
+    returns
+    same-length-2
+    returns-2)
