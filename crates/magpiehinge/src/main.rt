@@ -12,17 +12,26 @@ enum Input {
     Length(usize),
 }
 
+// One read, of what has arrived.
+fn read_some(buffer: &mut [u8]) -> Input
+    ensures { λ r. ⌜ lengthOf r ≤ length (now (buffer .exit)) ⌝ }
+{
+    let got = libc::read(STDIN_FILENO, buffer);
+    if got < 0 {
+        return Input::Failed;
+    }
+    Input::Length(io::count(got, buffer))
+}
+
 // Reads until the input ends or the buffer is full, however the bytes arrive.
 fn read_all(buffer: &mut [u8]) -> Input
     ensures { λ r. ⌜ lengthOf r ≤ length (now (buffer .exit)) ⌝ }
 {
     let mut done = 0;
     while done < buffer.len() {
-        let got = libc::read(STDIN_FILENO, &mut buffer[done..]);
-        if got < 0 {
+        let Input::Length(more) = read_some(&mut buffer[done..]) else {
             return Input::Failed;
-        }
-        let more = io::count(got, &buffer[done..]);
+        };
         if more == 0 {
             return Input::Length(done);
         }
@@ -37,7 +46,7 @@ fn main() {
     let Input::Length(length) = read_all(&mut sheet) else {
         return;
     };
-    let mut output = [0u8; 270000];
+    let mut output = report::page();
     let Placed::End(end) = report::print(&sheet[..length], &mut output, 0) else {
         return;
     };

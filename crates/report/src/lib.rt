@@ -236,7 +236,7 @@ fn fill(sheet: &[u8], page: &mut [u8]) -> Placed
 }
 
 // A page with room for the lines of any sheet.
-fn page() -> [u8; 270000]
+pub fn page() -> [u8; 270000]
     ensures { λ r. ⌜ length r ≡ 270000 ⌝ }
 {
     [0; 270000]
