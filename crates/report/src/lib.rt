@@ -5,7 +5,7 @@ use sheet::Asked;
 use sheet::Headed;
 ghost use mathlib.Core.Path.{_≡_};
 ghost use Prim.Native.Nat.{_*_, _≤_, _<_};
-ghost use lib.ListN.{length, take};
+ghost use lib.ListN.{length, take, replicate};
 ghost use Rattle.rules.specs.Labels.{tableOf};
 ghost use Rattle.rules.specs.Points.{apart};
 ghost use Rattle.rules.specs.Sheet.{points, coords, askCount, vectorsOf};
@@ -235,9 +235,10 @@ fn fill(sheet: &[u8], page: &mut [u8]) -> Placed
     }
 }
 
-// A page with room for the lines of any sheet.
+// A blank page with room for the lines of any sheet.
 pub fn page() -> [u8; 270000]
     ensures { λ r. ⌜ length r ≡ 270000 ⌝ }
+    ensures blank { λ r. ⌜ r ≡ replicate 270000 0 ⌝ }
 {
     [0; 270000]
 }

@@ -34,7 +34,7 @@ enum-told c = search needs
 
 -- src/lib.rt:235:9
 returns : tie.Need-returns
-returns c = absurd (never-short _ (c .before .before .before .before .before .page .ensures) (paged-told (c .enum-told .given .1) (c .before .before .before .fill .ensures)))
+returns c = absurd (never-short _ (c .before .before .before .before .before .page .ensures .0) (paged-told (c .enum-told .given .1) (c .before .before .before .fill .ensures)))
 
 -- src/lib.rt:237:18
 array-share-prefix-lines : tie.Need-array-share-prefix-lines
