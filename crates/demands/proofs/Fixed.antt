@@ -1,19 +1,14 @@
 -- Document 01, "What each stated result has to fix": "Show that two results meeting the statement are equal." Each public entry's answer and every lent cell
 -- afterwards are fixed: two calls on the same input that meet its contract agree in all of it. Assumes nothing.
 use Prim.Native.Nat.{ℕ}
-use native.Mathlib.Omega.{arith}
 use mathlib.Core.Path.{_≡_, sym, _∙_}
 use mathlib.Core.List.{List}
 use lib.IntN.{ℤ}
-use Rattle.rules.specs.Outcome.{Outcome, gives, refused}
 use Rattle.rules.specs.Walk.{Walk}
 use Rattle.rules.specs.Sheet.{Contents}
-use Rattle.rules.specs.Entries as rules
 use Rattle.rules.specs.Entries.{Ask}
-use Rattle.search.specs.declared.Counts.{Counts}
 use Rattle.search.specs.declared.Searched.{Searched}
-use Rattle.search.specs.declared.Searched.the-variants.{Refused, Done}
-use Rattle.search.specs.Answer.{told}
+use Rattle.search.proofs.Told.{search-told}
 use Rattle.walk.specs.declared.Answer.{Answer}
 use Rattle.walk.specs.declared.Walked.{Walked}
 use Rattle.walk.proofs.Fixed.{told-once, told-end-once}
@@ -21,23 +16,17 @@ use Rattle.sheet.specs.declared.Written.{Written}
 use Rattle.sheet.specs.declared.Headed.{Headed}
 use Rattle.sheet.specs.declared.Asked.{Asked}
 use Rattle.sheet.proofs.Told.{write-told, head-told, ask-told}
-use Rattle.demands.specs.Calls.{PointCall, DistanceCall, BuildCall, SearchCall, StepCall, WalkCall, WriteCall, HeaderCall, VectorsCall, AskCall}
+use Rattle.demands.specs.Calls.{PointCall, PointRefusalCall, DistanceCall, BuildCall, SearchCall, StepCall, WalkCall, WriteCall, HeaderCall, VectorsCall, AskCall}
 
 -- the one lemma: what equals the same is equal
 pub one : {A : Type 0} {x y z : A} → x ≡ z → y ≡ z → x ≡ y
 one p q = p ∙ sym q
 
--- the search's answer in the rules' terms loses nothing
-searched-once : (a b : Searched) → told a ≡ told b → a ≡ b
-searched-once (Refused x) (Refused y) e = cc
-searched-once (Refused x) (Done c) e = let z : _≡_ {A = ℕ} 0 1 = cc in absurd (omega arith)
-searched-once (Done c) (Refused y) e = let z : _≡_ {A = ℕ} 0 1 = cc in absurd (omega arith)
-searched-once (Done c) (Done k) e =
-    let q : _≡_ {A = rules.Counts} (record { found = c .found; seen = c .seen; walked = c .walked }) (record { found = k .found; seen = k .seen; walked = k .walked }) = cc in
-    λ i. Done (record { found = q i .found; seen = q i .seen; walked = q i .walked })
+pub point-fixed : {n d id : ℕ} {vectors p q : List ℤ} → PointCall n d vectors id p → PointCall n d vectors id q → p ≡ q
+point-fixed g h = one (g .hands) (h .hands)
 
-pub point-fixed : {n d id x y : ℕ} {vectors p q : List ℤ} → PointCall n d vectors id p x → PointCall n d vectors id q y → (p ≡ q) × (x ≡ y)
-point-fixed g h = (one (g .hands) (h .hands), one (g .numbers) (h .numbers))
+pub point-refusal-fixed : {n d id x y : ℕ} {vectors : List ℤ} → PointRefusalCall n d vectors id x → PointRefusalCall n d vectors id y → x ≡ y
+point-refusal-fixed g h = one (g .answers) (h .answers)
 
 pub distance-fixed : {a b : List ℤ} {x y : ℕ} → DistanceCall a b x → DistanceCall a b y → x ≡ y
 distance-fixed g h = one (g .answers) (h .answers)
@@ -47,7 +36,7 @@ build-fixed g h = (one (g .answers) (h .answers), one (g .table-holds) (h .table
 
 pub search-fixed : {a : Ask} {ids distances trail i j d e t u : List ℕ} {r s : Searched} → SearchCall a ids distances trail r i d t → SearchCall a ids distances trail s j e u → (r ≡ s) × (i ≡ j) × (d ≡ e) × (t ≡ u)
 search-fixed {r = r} {s = s} g h =
-    (searched-once r s (one (g .answers) (h .answers)), one (g .ids-hold) (h .ids-hold), one (g .distances-hold) (h .distances-hold), one (g .trail-holds) (h .trail-holds))
+    (search-told r s (one (g .answers) (h .answers)), one (g .ids-hold) (h .ids-hold), one (g .distances-hold) (h .distances-hold), one (g .trail-holds) (h .trail-holds))
 
 pub step-fixed : {n d threshold : ℕ} {vectors query : List ℤ} {table : List ℕ} {w v u : Walk} {r s : Answer} → StepCall n d vectors table query threshold w r v → StepCall n d vectors table query threshold w s u → (r ≡ s) × (v ≡ u)
 step-fixed {r = r} {s = s} g h = (told-once r s (one (g .answers) (h .answers)), one (g .record-holds) (h .record-holds))

@@ -20,10 +20,12 @@ use Rattle.sheet.specs.declared.Headed.{Headed}
 use Rattle.sheet.specs.declared.Asked.{Asked}
 use Rattle.sheet.specs.Answers.{writeTold, headTold, askTold}
 
--- `space::point` and `space::point_refusal`: the part handed back, and the number
-pub record PointCall (n d : ℕ) (vectors : List ℤ) (id : ℕ) (part : List ℤ) (number : ℕ) : Type 0 where
+-- `space::point`, the part handed back, and `space::point_refusal`, its number
+pub record PointCall (n d : ℕ) (vectors : List ℤ) (id : ℕ) (part : List ℤ) : Type 0 where
   pub hands : part ≡ pointOf n d vectors id
-  pub numbers : number ≡ pointRefusal n d (length vectors) id
+
+pub record PointRefusalCall (n d : ℕ) (vectors : List ℤ) (id number : ℕ) : Type 0 where
+  pub answers : number ≡ pointRefusal n d (length vectors) id
 
 -- `space::distance`
 pub record DistanceCall (a b : List ℤ) (r : ℕ) : Type 0 where

@@ -9,7 +9,19 @@ use walk::Walked;
 ghost use Rattle.rules.specs.Sheet.{contents};
 ghost use Rattle.rules.specs.Entries.{ask};
 ghost use Rattle.walk.specs.Answers.{at, recordIn};
-ghost use Rattle.demands.specs.Calls.{DistanceCall, BuildCall, SearchCall, StepCall, WalkCall, WriteCall, HeaderCall, VectorsCall, AskCall};
+ghost use Rattle.demands.specs.Calls.{PointCall, PointRefusalCall, DistanceCall, BuildCall, SearchCall, StepCall, WalkCall, WriteCall, HeaderCall, VectorsCall, AskCall};
+
+fn point_call(n: usize, d: usize, vectors: &[i8], id: usize) -> &[i8]
+    ensures { λ r. ⌜ PointCall n d (now (vectors .entry)) id (now r) ⌝ }
+{
+    space::point(n, d, vectors, id)
+}
+
+fn point_refusal_call(n: usize, d: usize, vectors: &[i8], id: usize) -> u8
+    ensures { λ r. ⌜ PointRefusalCall n d (now (vectors .entry)) id r ⌝ }
+{
+    space::point_refusal(n, d, vectors, id)
+}
 
 fn distance_call(a: &[i8], b: &[i8]) -> u32
     ensures { λ r. ⌜ DistanceCall (now (a .entry)) (now (b .entry)) r ⌝ }

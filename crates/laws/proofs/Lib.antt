@@ -16,6 +16,7 @@ pub mod Walking
 pub mod Distances
 pub mod Refusals
 pub mod Table
+pub mod Labelled
 pub mod Limits
 pub mod Bits
 pub mod Packing

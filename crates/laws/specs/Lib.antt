@@ -2,3 +2,4 @@
 pub mod Demand3
 pub mod Ends
 pub mod Line
+pub mod Labelled

@@ -5,3 +5,4 @@ pub mod Visiting
 pub mod Rounds
 pub mod Filling
 pub mod Finish
+pub mod Told
