@@ -2,6 +2,7 @@
 //! from seeds. Usage: `against [--program PATH] [FIRST SEED] [HOW MANY]`. The first difference is printed whole and ends the run with status 1.
 
 mod difference;
+mod lent;
 mod programs;
 mod searches;
 mod sets;
