@@ -1,13 +1,10 @@
 -- The decimal digits of a number, one after the other from the last. Assumes nothing.
-use Prim.Native.Nat.{ℕ, zero, suc, _+_, _*_, _/_, _%_, _^_, _≤_, _<_}
+use Prim.Native.Nat.{ℕ, zero, suc, _+_, _/_, _%_, _^_, _≤_, _<_}
 use native.Mathlib.Nat.{div-lt-iff-lt-mul, pow-suc}
-use native.Mathlib.Numerals.{add-one}
 use native.Mathlib.Omega.{arith}
 use mathlib.Core.Path.{_≡_, refl, sym, ap, _∙_}
 use mathlib.Core.Logic.{⊎-elim}
-use mathlib.Core.Bool.{Bool, true, false}
 use mathlib.Core.List.{List, [], _∷_, _++_}
-use lib.Dec.{ltb}
 use lib.ListN.{length, length-append}
 use borrow.Author.Tests.{lt-ltb, le-ltb}
 use Rattle.rules.specs.Lines.{decimalIn, decimal, part}
@@ -29,7 +26,9 @@ same zero (suc g) x l m = let e : x ≡ 0 = omega arith in rw e
 same (suc f) zero x l m = let e : x ≡ 0 = omega arith in rw e
 same (suc f) (suc g) x l m =
     ⊎-elim
-    (λ (h : 10 ≤ x). in-more f x h ∙ ap (λ (t : List ℕ). t ++ ((48 + x % 10) ∷ [])) (same f g (x / 10) (omega arith) (omega arith)) ∙ sym (in-more g x h))
+    (λ (h : 10 ≤ x).
+    let front = same f g (x / 10) (omega arith) (omega arith) in
+    in-more f x h ∙ ap (λ (t : List ℕ). t ++ ((48 + x % 10) ∷ [])) front ∙ sym (in-more g x h))
     (λ (h : x < 10). in-small f x h ∙ sym (in-small g x h))
     (le-or-lt 10 x)
 

@@ -1,6 +1,7 @@
 pub mod Digits
 pub mod Puts
+pub mod Runs
 pub mod Ends
 pub mod Lengths
-pub mod Words
-pub mod Three
+pub mod Rooms
+pub mod Measured

@@ -1,7 +1,7 @@
 -- Bytes at a place of a lent buffer, and where they end.
 use Prim.Native.Nat.{ℕ, _+_, _≤_}
 use mathlib.Core.Path.{_≡_}
-use mathlib.Core.Bool.{Bool, true, false}
+use mathlib.Core.Bool.{true, false}
 use mathlib.Core.List.{List, _++_}
 use lib.Dec.{leb}
 use lib.ListN.{length, take, drop}
@@ -28,8 +28,9 @@ placedAfter at l old = elim (leb (at + length l) (length old)) [ true ↦ put at
 unfoldable pub threeLines : ℕ → ℕ → ℕ → ℕ → List ℕ → List ℕ → List ℕ → List ℕ
 threeLines ask found seen walked ids distances trail = foundLine ask found seen walked ++ (nearLine ids distances ++ trailLine trail)
 
--- what a function that writes where there is room does
+-- what a function that writes where there is room does: what it needed is kept, so that runs can be joined without asking again
 pub record Put (at : ℕ) (l old new : List ℕ) (end : ℕ) : Type 0 where
+  pub fits : at + length l ≤ length old
   pub is : new ≡ put at l old
   pub ends : end ≡ at + length l
   pub size : length new ≡ length old

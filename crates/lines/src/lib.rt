@@ -1,10 +1,11 @@
 // The lines of document 01, "The program", as bytes in a lent buffer. Each line is measured first, so that a buffer that is too short is refused and
 // keeps all it held.
 mod measure;
+mod measure_line;
 mod put;
+mod put_line;
 
 ghost use mathlib.Core.Path.{_≡_};
-ghost use lib.ListN.{length};
 ghost use Rattle.rules.specs.Lines.{setLine, foundLine, askRefusedLine, nearLine, trailLine, refusedLine};
 ghost use Rattle.lines.specs.Placing.{placedAnswer, placedAfter, threeLines};
 
@@ -30,10 +31,10 @@ pub fn set_line(n: usize, d: usize, asks: usize, output: &mut [u8], at: usize) -
     ensures answer { λ r. ⌜ r ≡ placedAnswer at (setLine n d asks) (now (output .entry)) ⌝ }
     ensures output { λ r. ⌜ now (output .exit) ≡ placedAfter at (setLine n d asks) (now (output .entry)) ⌝ }
 {
-    let Placed::End(_) = measure::set_end(n, d, asks, at, output.len()) else {
+    let Placed::End(_) = measure_line::set_end(n, d, asks, at, output.len()) else {
         return Placed::Short;
     };
-    Placed::End(put::put_set(n, d, asks, output, at))
+    Placed::End(put_line::put_set(n, d, asks, output, at))
 }
 
 // ask I refused R
@@ -41,10 +42,10 @@ pub fn ask_refused_line(ask: usize, refusal: usize, output: &mut [u8], at: usize
     ensures answer { λ r. ⌜ r ≡ placedAnswer at (askRefusedLine ask refusal) (now (output .entry)) ⌝ }
     ensures output { λ r. ⌜ now (output .exit) ≡ placedAfter at (askRefusedLine ask refusal) (now (output .entry)) ⌝ }
 {
-    let Placed::End(_) = measure::ask_refused_end(ask, refusal, at, output.len()) else {
+    let Placed::End(_) = measure_line::ask_refused_end(ask, refusal, at, output.len()) else {
         return Placed::Short;
     };
-    Placed::End(put::put_ask_refused(ask, refusal, output, at))
+    Placed::End(put_line::put_ask_refused(ask, refusal, output, at))
 }
 
 // refused R
@@ -52,10 +53,10 @@ pub fn refused_line(refusal: usize, output: &mut [u8], at: usize) -> Placed
     ensures answer { λ r. ⌜ r ≡ placedAnswer at (refusedLine refusal) (now (output .entry)) ⌝ }
     ensures output { λ r. ⌜ now (output .exit) ≡ placedAfter at (refusedLine refusal) (now (output .entry)) ⌝ }
 {
-    let Placed::End(_) = measure::refused_end(refusal, at, output.len()) else {
+    let Placed::End(_) = measure_line::refused_end(refusal, at, output.len()) else {
         return Placed::Short;
     };
-    Placed::End(put::put_refused(refusal, output, at))
+    Placed::End(put_line::put_refused(refusal, output, at))
 }
 
 // ask I found F seen S walked W
@@ -70,10 +71,10 @@ pub fn found_line(
     ensures answer { λ r. ⌜ r ≡ placedAnswer at (foundLine ask found seen walked) (now (output .entry)) ⌝ }
     ensures output { λ r. ⌜ now (output .exit) ≡ placedAfter at (foundLine ask found seen walked) (now (output .entry)) ⌝ }
 {
-    let Placed::End(_) = measure::found_end(ask, found, seen, walked, at, output.len()) else {
+    let Placed::End(_) = measure_line::found_end(ask, found, seen, walked, at, output.len()) else {
         return Placed::Short;
     };
-    Placed::End(put::put_found(ask, found, seen, walked, output, at))
+    Placed::End(put_line::put_found(ask, found, seen, walked, output, at))
 }
 
 // near ID D ID D ..
@@ -81,10 +82,10 @@ pub fn near_line(ids: &[u16], distances: &[u32], output: &mut [u8], at: usize) -
     ensures answer { λ r. ⌜ r ≡ placedAnswer at (nearLine (now (ids .entry)) (now (distances .entry))) (now (output .entry)) ⌝ }
     ensures output { λ r. ⌜ now (output .exit) ≡ placedAfter at (nearLine (now (ids .entry)) (now (distances .entry))) (now (output .entry)) ⌝ }
 {
-    let Placed::End(_) = measure::near_end(ids, distances, at, output.len()) else {
+    let Placed::End(_) = measure_line::near_end(ids, distances, at, output.len()) else {
         return Placed::Short;
     };
-    Placed::End(put::put_near(ids, distances, output, at))
+    Placed::End(put_line::put_near(ids, distances, output, at))
 }
 
 // trail ID ID ..
@@ -92,10 +93,10 @@ pub fn trail_line(ids: &[u16], output: &mut [u8], at: usize) -> Placed
     ensures answer { λ r. ⌜ r ≡ placedAnswer at (trailLine (now (ids .entry))) (now (output .entry)) ⌝ }
     ensures output { λ r. ⌜ now (output .exit) ≡ placedAfter at (trailLine (now (ids .entry))) (now (output .entry)) ⌝ }
 {
-    let Placed::End(_) = measure::trail_end(ids, at, output.len()) else {
+    let Placed::End(_) = measure_line::trail_end(ids, at, output.len()) else {
         return Placed::Short;
     };
-    Placed::End(put::put_trail(ids, output, at))
+    Placed::End(put_line::put_trail(ids, output, at))
 }
 
 // The three lines of an ask that is answered, all or none.
@@ -113,16 +114,18 @@ pub fn answer_lines(
     ensures answer { λ r. ⌜ r ≡ placedAnswer at (threeLines ask found seen walked (now (ids .entry)) (now (distances .entry)) (now (trail .entry))) (now (output .entry)) ⌝ }
     ensures output { λ r. ⌜ now (output .exit) ≡ placedAfter at (threeLines ask found seen walked (now (ids .entry)) (now (distances .entry)) (now (trail .entry))) (now (output .entry)) ⌝ }
 {
-    let Placed::End(near) = measure::found_end(ask, found, seen, walked, at, output.len()) else {
+    let Placed::End(_) = measure_line::three_end(
+        ask,
+        found,
+        seen,
+        walked,
+        ids,
+        distances,
+        trail,
+        at,
+        output.len(),
+    ) else {
         return Placed::Short;
     };
-    let Placed::End(path) = measure::near_end(ids, distances, near, output.len()) else {
-        return Placed::Short;
-    };
-    let Placed::End(_) = measure::trail_end(trail, path, output.len()) else {
-        return Placed::Short;
-    };
-    let second = put::put_found(ask, found, seen, walked, output, at);
-    let third = put::put_near(ids, distances, output, second);
-    Placed::End(put::put_trail(trail, output, third))
+    Placed::End(put_line::put_three(ask, found, seen, walked, ids, distances, trail, output, at))
 }

@@ -1,6 +1,6 @@
 -- `lines::place` meets its contract. Assumes nothing.
 use mathlib.Core.Path.{sym, _∙_}
-use Rattle.lines.proofs.Ends.{ended, answer-end, answer-short, after-end, after-short}
+use Rattle.lines.proofs.Ends.{ended, placed-end, placed-short}
 use borrow.Author.Needs.{needs}
 use Rattle.lines.proofs.place.Statement.{statement}
 use Rattle.lines.proofs.place.Tie as tie
@@ -9,32 +9,26 @@ use Rattle.lines.proofs.place.Lts as lts
 use Rattle.lines.proofs.measure.advance.Reads as advance-reads
 use Rattle.lines.proofs.put.put_word.Reads as put-word-reads
 
--- src/lib.rt:22:26
 advance-requires : tie.Need-advance-requires
 advance-requires c κs = search needs
 
 enum-told : tie.Need-enum-told
 enum-told c = search needs
 
--- src/lib.rt:23:9
 enum-told-2 : tie.Need-enum-told-2
 enum-told-2 c = search needs
 
--- src/lib.rt:23:9
 returns : tie.Need-returns
-returns c = let e = sym (c .enum-told2 .given .1) ∙ c .before .before .advance .ensures in (answer-short _ _ _ e, after-short _ _ _ e)
+returns c = placed-short _ _ _ (sym (c .enum-told2 .given .1) ∙ c .before .before .advance .ensures)
 
--- src/lib.rt:25:17
 put-word-requires : tie.Need-put-word-requires
 put-word-requires c κs = ended _ _ _ (sym (c .before .enum-told .given .1) ∙ c .before .before .before .advance .ensures) .0
 
--- src/lib.rt:18:1
 same-length : tie.Need-same-length
 same-length c = search needs
 
--- src/lib.rt:18:1
 returns-2 : tie.Need-returns-2
-returns-2 c = let h = ended _ _ _ (sym (c .before .before .before .before .enum-told .given .1) ∙ c .before .before .before .before .before .before .advance .ensures) .0 in (answer-end (c .before .before .put-word .ensures) h, after-end (c .before .before .put-word .ensures) h)
+returns-2 c = placed-end (c .before .before .put-word .ensures)
 
 pub place-spec : {M : Type 1} → statement M
 place-spec =

@@ -1,40 +1,34 @@
 -- `lines::trail_line` meets its contract. Assumes nothing.
 use mathlib.Core.Path.{sym, _∙_}
-use Rattle.lines.proofs.Ends.{ended, answer-end, answer-short, after-end, after-short}
+use Rattle.lines.proofs.Ends.{ended, placed-end, placed-short}
 use borrow.Author.Needs.{needs}
 use Rattle.lines.proofs.trail_line.Statement.{statement}
 use Rattle.lines.proofs.trail_line.Tie as tie
 use Rattle.lines.proofs.trail_line.Reads as reads
 use Rattle.lines.proofs.trail_line.Lts as lts
-use Rattle.lines.proofs.measure.trail_end.Reads as trail-end-reads
-use Rattle.lines.proofs.put.put_trail.Reads as put-trail-reads
+use Rattle.lines.proofs.measure_line.trail_end.Reads as trail-end-reads
+use Rattle.lines.proofs.put_line.put_trail.Reads as put-trail-reads
 
--- src/lib.rt:88:26
 trail-end-requires : tie.Need-trail-end-requires
 trail-end-requires c κs = search needs
 
 enum-told : tie.Need-enum-told
 enum-told c = search needs
 
--- src/lib.rt:89:9
 enum-told-2 : tie.Need-enum-told-2
 enum-told-2 c = search needs
 
--- src/lib.rt:89:9
 returns : tie.Need-returns
-returns c = let e = sym (c .enum-told2 .given .1) ∙ c .before .before .trail-end .ensures in (answer-short _ _ _ e, after-short _ _ _ e)
+returns c = placed-short _ _ _ (sym (c .enum-told2 .given .1) ∙ c .before .before .trail-end .ensures)
 
--- src/lib.rt:91:17
 put-trail-requires : tie.Need-put-trail-requires
 put-trail-requires c κs = ended _ _ _ (sym (c .before .enum-told .given .1) ∙ c .before .before .before .trail-end .ensures) .0
 
--- src/lib.rt:84:1
 same-length : tie.Need-same-length
 same-length c = search needs
 
--- src/lib.rt:84:1
 returns-2 : tie.Need-returns-2
-returns-2 c = let h = ended _ _ _ (sym (c .before .before .before .before .enum-told .given .1) ∙ c .before .before .before .before .before .before .trail-end .ensures) .0 in (answer-end (c .before .before .put-trail .ensures) h, after-end (c .before .before .put-trail .ensures) h)
+returns-2 c = placed-end (c .before .before .put-trail .ensures)
 
 pub trail-line-spec : {M : Type 1} → statement M
 trail-line-spec =

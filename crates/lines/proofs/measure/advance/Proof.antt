@@ -8,19 +8,15 @@ use Rattle.lines.proofs.measure.advance.Tie as tie
 use Rattle.lines.proofs.measure.advance.Reads as reads
 use Rattle.lines.proofs.measure.advance.Lts as lts
 
--- src/measure.rt:47:9
 returns : tie.Need-returns
 returns c = sym (ends-past _ _ _ (omega arith))
 
--- src/measure.rt:50:9
 returns-2 : tie.Need-returns-2
 returns-2 c = sym (ends-past _ _ _ (omega arith))
 
--- src/measure.rt:52:17
 add-t5 : tie.Need-add-t5
 add-t5 c = search needs
 
--- src/measure.rt:43:1
 returns-3 : tie.Need-returns-3
 returns-3 c = sym (ends-in _ _ _ (omega arith))
 

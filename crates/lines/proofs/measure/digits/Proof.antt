@@ -13,23 +13,18 @@ Inv-loop x count₀ rest₀ count rest = Counted x count rest
 abbrev μ-loop : tie.MeasureT-loop
 μ-loop x count₀ rest₀ count rest = rest
 
--- src/measure.rt:28:5
 loop-holds : tie.Need-loop-holds Inv-loop μ-loop
 loop-holds c = counted-start _
 
--- src/measure.rt:30:9
 add-count : tie.Need-add-count Inv-loop μ-loop
 add-count c = omega (arith, counted-few (c .before .loop .inv) (search needs))
 
--- src/measure.rt:28:5
 loop-less : tie.Need-loop-less Inv-loop μ-loop
 loop-less c = omega arith
 
--- src/measure.rt:28:5
 loop-again : tie.Need-loop-again Inv-loop μ-loop
 loop-again c = counted-step (c .before .loop .inv) (c .loop-test .taken)
 
--- src/measure.rt:23:1
 returns : tie.Need-returns Inv-loop μ-loop
 returns c = record { is = counted-end (c .before .loop .inv) (c .loop-test .left); few = counted-few (c .before .loop .inv) (search needs) }
 

@@ -4,7 +4,7 @@ use mathlib.Core.Path.{sym, _∙_}
 use lib.ListN.{length, drop}
 use Rattle.rules.specs.Lines.{pairs}
 use Rattle.lines.proofs.Ends.{Ahead, ahead-start, ahead-step, ahead-short, ahead-end}
-use Rattle.lines.proofs.Lengths.{pairs-next, pairs-done}
+use Rattle.lines.proofs.Runs.{pairs-next, pairs-done}
 use mathlib.Core.List.{[]}
 use mathlib.Core.Path.{_≡_}
 use borrow.Author.Needs.{needs}
@@ -18,70 +18,66 @@ use Rattle.lines.proofs.measure.fewer.Reads as fewer-reads
 use Rattle.lines.proofs.measure.pair_end.Reads as pair-end-reads
 
 abbrev Inv-loop : tie.InvT-loop
-Inv-loop ids distances at limit count end₀ i₀ end i = (i ≤ count) × (count ≡ min (length ids) (length distances)) × Ahead at (pairs ids distances) limit end (pairs (drop i ids) (drop i distances))
+Inv-loop ids distances at limit count end₀ i₀ end i =
+    (i ≤ count) × (count ≡ min (length ids) (length distances)) × Ahead at (pairs ids distances) limit end (pairs (drop i ids) (drop i distances))
 
 abbrev μ-loop : tie.MeasureT-loop
 μ-loop ids distances at limit count end₀ i₀ end i = count - i
 
--- src/measure.rt:103:9
 fewer-requires : tie.Need-fewer-requires Inv-loop μ-loop
 fewer-requires c κs = search needs
 
--- src/measure.rt:106:5
 loop-holds : tie.Need-loop-holds Inv-loop μ-loop
 loop-holds c = (omega arith, c .fewer .ensures, ahead-start _ _ _)
 
--- src/measure.rt:107:42
 mul-pair-end : tie.Need-mul-pair-end Inv-loop μ-loop
 mul-pair-end c = search needs
 
--- src/measure.rt:107:42
 shared-slice-read-pair-end : tie.Need-shared-slice-read-pair-end Inv-loop μ-loop
 shared-slice-read-pair-end c = search needs
 
--- src/measure.rt:107:50
 mul-pair-end-2 : tie.Need-mul-pair-end-2 Inv-loop μ-loop
 mul-pair-end-2 c = search needs
 
--- src/measure.rt:107:50
 shared-slice-read-pair-end-2 : tie.Need-shared-slice-read-pair-end-2 Inv-loop μ-loop
 shared-slice-read-pair-end-2 c = search needs
 
--- src/measure.rt:107:33
 pair-end-requires : tie.Need-pair-end-requires Inv-loop μ-loop
 pair-end-requires c κs = search needs
 
--- src/measure.rt:107:25
 enum-known-next : tie.Need-enum-known-next Inv-loop μ-loop
 enum-known-next c = search needs
 
--- src/measure.rt:108:13
 enum-told : tie.Need-enum-told Inv-loop μ-loop
 enum-told c = search needs
 
--- src/measure.rt:108:13
 returns : tie.Need-returns Inv-loop μ-loop
-returns c = ahead-short (c .before .before .before .before .before .before .loop .inv .2) (pairs-next _ _ _ _ (c .before .before .before .before .before .before .loop .inv .1) (c .before .before .before .before .before .loop-test .taken)) (sym (c .enum-told .given .1) ∙ c .before .before .pair-end .ensures)
+returns c =
+    let test = c .before .before .before .before .before in
+    let turn = test .before .loop in
+    let end = sym (c .enum-told .given .1) ∙ c .before .before .pair-end .ensures in
+    ahead-short (turn .inv .2) (pairs-next _ _ _ _ (turn .inv .1) (test .loop-test .taken)) end
 
--- src/measure.rt:111:9
 add-i : tie.Need-add-i Inv-loop μ-loop
 add-i c = search needs
 
--- src/measure.rt:106:5
 loop-less : tie.Need-loop-less Inv-loop μ-loop
 loop-less c = search needs
 
--- src/measure.rt:106:5
 loop-again : tie.Need-loop-again Inv-loop μ-loop
-loop-again c = (omega arith, c .before .before .before .before .before .before .before .loop .inv .1, ahead-step (c .before .before .before .before .before .before .before .loop .inv .2) (pairs-next _ _ _ _ (c .before .before .before .before .before .before .before .loop .inv .1) (c .before .before .before .before .before .before .loop-test .taken)) (sym (c .before .next .given .1) ∙ c .before .before .before .pair-end .ensures))
+loop-again c =
+    let test = c .before .before .before .before .before .before in
+    let turn = test .before .loop in
+    let end = sym (c .before .next .given .1) ∙ c .before .before .before .pair-end .ensures in
+    (omega arith, turn .inv .1, ahead-step (turn .inv .2) (pairs-next _ _ _ _ (turn .inv .1) (test .loop-test .taken)) end)
 
--- src/measure.rt:113:5
 advance-requires : tie.Need-advance-requires Inv-loop μ-loop
 advance-requires c κs = search needs
 
--- src/measure.rt:100:1
 returns-2 : tie.Need-returns-2 Inv-loop μ-loop
-returns-2 c = ahead-end [] (c .before .before .loop .inv .2) (pairs-done _ _ _ _ (c .before .before .loop .inv .1) (c .before .loop-test .left)) (c .advance .ensures)
+returns-2 c =
+    let end = c .before .before .loop in
+    ahead-end [] (end .inv .2) (pairs-done _ _ _ _ (end .inv .1) (c .before .loop-test .left)) (c .advance .ensures)
 
 pub pairs-end-spec : {M : Type 1} → statement M
 pairs-end-spec =

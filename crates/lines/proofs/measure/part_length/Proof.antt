@@ -7,15 +7,12 @@ use Rattle.lines.proofs.measure.part_length.Reads as reads
 use Rattle.lines.proofs.measure.part_length.Lts as lts
 use Rattle.lines.proofs.measure.digits.Reads as digits-reads
 
--- src/measure.rt:39:9
 digits-requires : tie.Need-digits-requires
 digits-requires c κs = search needs
 
--- src/measure.rt:39:5
 add-result : tie.Need-add-result
 add-result c = search needs
 
--- src/measure.rt:36:1
 returns : tie.Need-returns
 returns c = part-length-of (c .digits .ensures)
 

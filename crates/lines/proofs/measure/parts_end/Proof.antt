@@ -4,7 +4,8 @@ use mathlib.Core.Path.{sym, _∙_}
 use lib.ListN.{length, drop}
 use Rattle.rules.specs.Lines.{parts}
 use Rattle.lines.proofs.Ends.{Ahead, ahead-start, ahead-step, ahead-short, ahead-end}
-use Rattle.lines.proofs.Lengths.{parts-next, parts-done, part-measured}
+use Rattle.lines.proofs.Runs.{parts-next, parts-done}
+use Rattle.lines.proofs.Measured.{part-measured}
 use mathlib.Core.List.{[]}
 use borrow.Author.Needs.{needs}
 use native.Mathlib.Omega.{arith}
@@ -22,59 +23,53 @@ Inv-loop ids at limit end₀ i₀ end i = (i ≤ length ids) × Ahead at (parts 
 abbrev μ-loop : tie.MeasureT-loop
 μ-loop ids at limit end₀ i₀ end i = length ids - i
 
--- src/measure.rt:84:5
 loop-holds : tie.Need-loop-holds Inv-loop μ-loop
 loop-holds c = (omega arith, ahead-start _ _ _)
 
--- src/measure.rt:85:63
 mul-wide : tie.Need-mul-wide Inv-loop μ-loop
 mul-wide c = search needs
 
--- src/measure.rt:85:63
 shared-slice-read-wide : tie.Need-shared-slice-read-wide Inv-loop μ-loop
 shared-slice-read-wide c = search needs
 
--- src/measure.rt:85:58
 wide-requires : tie.Need-wide-requires Inv-loop μ-loop
 wide-requires c κs = search needs
 
--- src/measure.rt:85:46
 part-length-requires : tie.Need-part-length-requires Inv-loop μ-loop
 part-length-requires c κs = search needs
 
--- src/measure.rt:85:33
 advance-requires : tie.Need-advance-requires Inv-loop μ-loop
 advance-requires c κs = search needs
 
--- src/measure.rt:85:25
 enum-known-next : tie.Need-enum-known-next Inv-loop μ-loop
 enum-known-next c = search needs
 
--- src/measure.rt:86:13
 enum-told : tie.Need-enum-told Inv-loop μ-loop
 enum-told c = search needs
 
--- src/measure.rt:86:13
 returns : tie.Need-returns Inv-loop μ-loop
-returns c = ahead-short (c .before .before .before .before .before .before .before .loop .inv .1) (parts-next _ _ (c .before .before .before .before .before .before .loop-test .taken)) (sym (c .enum-told .given .1) ∙ part-measured _ _ (c .before .before .before .part-length .ensures) (c .before .before .before .before .wide .ensures) (c .before .before .advance .ensures))
+returns c =
+    let called = c .before .before in
+    let test = called .before .before .before .before in
+    let end = part-measured _ _ (called .before .part-length .ensures) (called .before .before .wide .ensures) (called .advance .ensures) in
+    ahead-short (test .before .loop .inv .1) (parts-next _ _ (test .loop-test .taken)) (sym (c .enum-told .given .1) ∙ end)
 
--- src/measure.rt:89:9
 add-i : tie.Need-add-i Inv-loop μ-loop
 add-i c = search needs
 
--- src/measure.rt:84:5
 loop-less : tie.Need-loop-less Inv-loop μ-loop
 loop-less c = search needs
 
--- src/measure.rt:84:5
 loop-again : tie.Need-loop-again Inv-loop μ-loop
-loop-again c = (omega arith, ahead-step (c .before .before .before .before .before .before .before .before .loop .inv .1) (parts-next _ _ (c .before .before .before .before .before .before .before .loop-test .taken)) (sym (c .before .next .given .1) ∙ part-measured _ _ (c .before .before .before .before .part-length .ensures) (c .before .before .before .before .before .wide .ensures) (c .before .before .before .advance .ensures)))
+loop-again c =
+    let called = c .before .before .before in
+    let test = called .before .before .before .before in
+    let end = part-measured _ _ (called .before .part-length .ensures) (called .before .before .wide .ensures) (called .advance .ensures) in
+    (omega arith, ahead-step (test .before .loop .inv .1) (parts-next _ _ (test .loop-test .taken)) (sym (c .before .next .given .1) ∙ end))
 
--- src/measure.rt:91:5
 advance-requires-2 : tie.Need-advance-requires-2 Inv-loop μ-loop
 advance-requires-2 c κs = search needs
 
--- src/measure.rt:79:1
 returns-2 : tie.Need-returns-2 Inv-loop μ-loop
 returns-2 c = ahead-end [] (c .before .before .loop .inv .1) (parts-done _ _ (c .before .loop-test .left)) (c .advance2 .ensures)
 

@@ -2,7 +2,6 @@
 use borrow.Author.Needs.{needs}
 use Rattle.lines.proofs.Digits.{length-some}
 use Rattle.lines.proofs.Puts.{Decimals, decimals-start, decimals-step, decimals-more, decimals-room, decimals-end}
-use mathlib.Core.Path.{refl}
 use native.Mathlib.Omega.{arith}
 use Rattle.lines.proofs.put.put_decimal.Statement.{statement}
 use Rattle.lines.proofs.put.put_decimal.Tie as tie
@@ -17,57 +16,56 @@ Inv-loop x output₀ at end place₀ rest₀ output place rest = Decimals at x o
 abbrev μ-loop : tie.MeasureT-loop
 μ-loop x output₀ at end place₀ rest₀ output place rest = rest
 
--- src/put.rt:34:20
 digits-requires : tie.Need-digits-requires Inv-loop μ-loop
 digits-requires c κs = search needs
 
--- src/put.rt:34:15
 add-end : tie.Need-add-end Inv-loop μ-loop
 add-end c = omega (arith, c .digits .ensures .is)
 
--- src/put.rt:35:21
 sub-place : tie.Need-sub-place Inv-loop μ-loop
 sub-place c = omega (arith, c .digits .ensures .is, length-some (c .before .before .args .x))
 
--- src/put.rt:37:5
 loop-holds : tie.Need-loop-holds Inv-loop μ-loop
 loop-holds c = decimals-start _ _ _ _ (omega (arith, c .digits .ensures .is, length-some (c .before .before .args .x)))
 
--- src/put.rt:38:25
 digit-requires : tie.Need-digit-requires Inv-loop μ-loop
 digit-requires c κs = search needs
 
--- src/put.rt:38:9
 slice-write-output : tie.Need-slice-write-output Inv-loop μ-loop
 slice-write-output c = decimals-room (c .before .before .loop .inv) (c .before .before .before .before .before .pre)
 
--- src/put.rt:39:9
 sub-place-2 : tie.Need-sub-place-2 Inv-loop μ-loop
 sub-place-2 c = decimals-more (c .before .before .loop .inv) (c .before .loop-test .taken)
 
--- src/put.rt:37:5
 loop-less : tie.Need-loop-less Inv-loop μ-loop
 loop-less c = omega arith
 
--- src/put.rt:37:5
 loop-again : tie.Need-loop-again Inv-loop μ-loop
-loop-again c = decimals-step (c .before .before .loop .inv) (c .before .before .before .before .before .pre) (c .before .loop-test .taken) (c .digit .result) (c .digit .ensures) _ (omega (arith, decimals-more (c .before .before .loop .inv) (c .before .loop-test .taken)))
+loop-again c =
+    let test = c .before in
+    let turn = test .before in
+    let more = decimals-more (turn .loop .inv) (test .loop-test .taken) in
+    decimals-step (turn .loop .inv) (turn .before .before .before .pre) (test .loop-test .taken) (c .digit .result) (c .digit .ensures) _ (omega arith)
 
--- src/put.rt:42:21
 digit-requires-2 : tie.Need-digit-requires-2 Inv-loop μ-loop
 digit-requires-2 c κs = search needs
 
--- src/put.rt:42:5
 slice-write-output-2 : tie.Need-slice-write-output-2 Inv-loop μ-loop
 slice-write-output-2 c = decimals-room (c .before .before .loop .inv) (c .before .before .before .before .before .pre)
 
--- src/put.rt:30:1
 same-length : tie.Need-same-length Inv-loop μ-loop
 same-length c = search needs
 
--- src/put.rt:30:1
 returns : tie.Need-returns Inv-loop μ-loop
-returns c = decimals-end (c .before .before .loop .inv) (c .before .before .before .before .before .pre) (c .before .loop-test .left) (c .digit2 .result) (c .digit2 .ensures) _ (omega (arith, c .before .before .before .digits .ensures .is))
+returns c =
+    let test = c .before in
+    let turn = test .before in
+    let end = turn .before in
+    decimals-end (turn .loop .inv) (end .before .before .pre) (test .loop-test .left)
+    (c .digit2 .result)
+    (c .digit2 .ensures)
+    _
+    (omega (arith, end .digits .ensures .is))
 
 pub put-decimal-spec : {M : Type 1} → statement M
 put-decimal-spec =

@@ -17,45 +17,39 @@ Inv-loop word output₀ at i₀ output i = (i ≤ length word) × Copied at word
 abbrev μ-loop : tie.MeasureT-loop
 μ-loop word output₀ at i₀ output i = length word - i
 
--- src/put.rt:15:5
 loop-holds : tie.Need-loop-holds Inv-loop μ-loop
 loop-holds c = (omega arith, copied-start _ _ _)
 
--- src/put.rt:16:26
 shared-slice-read-output : tie.Need-shared-slice-read-output Inv-loop μ-loop
 shared-slice-read-output c = search needs
 
--- src/put.rt:16:16
 add-output : tie.Need-add-output Inv-loop μ-loop
 add-output c = search needs
 
--- src/put.rt:16:9
 slice-write-output : tie.Need-slice-write-output Inv-loop μ-loop
 slice-write-output c = search needs
 
--- src/put.rt:17:9
 add-i : tie.Need-add-i Inv-loop μ-loop
 add-i c = search needs
 
--- src/put.rt:15:5
 loop-less : tie.Need-loop-less Inv-loop μ-loop
 loop-less c = search needs
 
--- src/put.rt:15:5
 loop-again : tie.Need-loop-again Inv-loop μ-loop
-loop-again c = (omega arith, copied-step (c .before .before .loop .inv .1) (c .before .before .before .pre) (c .before .loop-test .taken) _ refl)
+loop-again c =
+    let test = c .before in
+    (omega arith, copied-step (test .before .loop .inv .1) (test .before .before .pre) (test .loop-test .taken) _ refl)
 
--- src/put.rt:19:5
 add-result : tie.Need-add-result Inv-loop μ-loop
 add-result c = search needs
 
--- src/put.rt:10:1
 same-length : tie.Need-same-length Inv-loop μ-loop
 same-length c = search needs
 
--- src/put.rt:10:1
 returns : tie.Need-returns Inv-loop μ-loop
-returns c = copied-end (c .before .loop .inv .1) (le-antisymm (c .before .loop .inv .0) (c .loop-test .left))
+returns c =
+    let end = c .before in
+    copied-end (end .loop .inv .1) (end .before .pre) (le-antisymm (end .loop .inv .0) (c .loop-test .left))
 
 pub put-word-spec : {M : Type 1} → statement M
 put-word-spec =
