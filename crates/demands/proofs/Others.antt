@@ -1,6 +1,6 @@
 -- The public functions beside the entries: two results that meet their statements are equal too. A contract that is one equation, or one for each lent
--- cell, fixes what it speaks of by `one`, the lemma of `Fixed`: `space::is_outside`, `set_refusal`, `measure`, `table::label`, `sheet::field`, `field_from`, and every
--- result and cell of `cabi`. Assumes nothing.
+-- cell, fixes what it speaks of by `one`, the lemma of `Fixed`: `space::is_outside`, `set_refusal`, `start_refusal`, `smaller`, `measure`, `table::label`,
+-- `sheet::field`, `field_from`, and every result and cell of `cabi`. Assumes nothing.
 use Prim.Native.Nat.{ℕ}
 use mathlib.Core.Path.{_≡_}
 use mathlib.Core.List.{List}

@@ -4,4 +4,5 @@ pub mod Marking
 pub mod Visiting
 pub mod Rounds
 pub mod Filling
+pub mod Asked
 pub mod Finish
