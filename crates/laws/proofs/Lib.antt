@@ -15,6 +15,7 @@ pub mod Walk
 pub mod Walking
 pub mod Distances
 pub mod Refusals
+pub mod RefusalOrder
 pub mod Table
 pub mod Labelled
 pub mod Limits

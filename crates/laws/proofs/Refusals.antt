@@ -1,4 +1,4 @@
--- Refusals in their order: what an answer of 0 tells, and how an entry's order goes on from one that it shares. Assumes nothing.
+-- Refusals: what an answer of 0 tells, and what an entry answers and leaves. How one order goes on from another is in `RefusalOrder`. Assumes nothing.
 use Prim.Native.Nat.{ℕ, zero, suc, _+_, _*_, _≤_, _<_}
 use mathlib.Core.Path.{_≡_, refl, sym, _∙_}
 use mathlib.Core.Logic.{_≢_}
@@ -7,9 +7,9 @@ use mathlib.Core.List.{List, [], _∷_}
 use native.Mathlib.Nat.{mul-le-mul-right, mul-le-mul, suc-mul}
 use native.Mathlib.Omega.{arith}
 use lib.Dec.{eqb, leb, ltb}
-use borrow.Author.Tests.{ltb-false, leb-false, eqb-true, not-false}
+use borrow.Author.Tests.{ltb-false, eqb-true, not-false}
 use Rattle.rules.specs.Outcome.{Outcome, gives, refused, outcome, after, firstOf, orElse}
-use Rattle.rules.specs.Refusals.{outside, differ, setRefusal, pointRefusal, buildRefusal, searchRefusal, walkRefusal, refuse4, refuse5, refuse6, refuse7, refuse8, refuse9, refuse10}
+use Rattle.rules.specs.Refusals.{outside, differ, setRefusal}
 use Rattle.laws.proofs.Tests.{or-off, or-off-r}
 
 -- ---- one after the other
@@ -88,32 +88,6 @@ small-product n d h k = mul-le-mul h k
 
 pub small-square : (n : ℕ) → n ≤ 128 → n * n ≤ 16384
 small-square n h = mul-le-mul h h
-
--- ---- each entry looks at the set first, and goes on from there
-
-set-first : (t u v : Bool) (x : ℕ) → cond t 1 (cond u 2 (cond v 3 x)) ≡ orElse (cond t 1 (cond u 2 (cond v 3 0))) x
-unfolding orElse
-set-first true u v x = refl
-set-first false true v x = refl
-set-first false false true x = refl
-set-first false false false x = refl
-
-pub point-order : (n d vectors id : ℕ) → pointRefusal n d vectors id ≡ orElse (setRefusal n d vectors) (firstOf (refuse6 n id ∷ []))
-unfolding pointRefusal setRefusal
-point-order n d vectors id = set-first (outside 1 128 n) (outside 1 64 d) (differ vectors (n * d)) _
-
-pub build-order : (n d vectors table : ℕ) → buildRefusal n d vectors table ≡ orElse (setRefusal n d vectors) (firstOf (refuse4 n table ∷ []))
-unfolding buildRefusal setRefusal
-build-order n d vectors table = set-first (outside 1 128 n) (outside 1 64 d) (differ vectors (n * d)) _
-
-pub walk-order : (n d vectors table query start threshold : ℕ) → walkRefusal n d vectors table query start threshold ≡ orElse (setRefusal n d vectors) (firstOf (refuse4 n table ∷ refuse5 d query ∷ refuse6 n start ∷ refuse9 threshold ∷ []))
-unfolding walkRefusal setRefusal
-walk-order n d vectors table query start threshold = set-first (outside 1 128 n) (outside 1 64 d) (differ vectors (n * d)) _
-
-pub search-order : (n d vectors table query start threshold width k ids distances trail : ℕ) → searchRefusal n d vectors table query start threshold width k ids distances trail ≡ orElse (setRefusal n d vectors) (firstOf (refuse4 n table ∷ refuse5 d query ∷ refuse6 n start ∷ refuse7 width ∷ refuse8 width k ∷ refuse9 threshold ∷ refuse10 n k ids distances trail ∷ []))
-unfolding searchRefusal setRefusal
-search-order n d vectors table query start threshold width k ids distances trail =
-    set-first (outside 1 128 n) (outside 1 64 d) (differ vectors (n * d)) _
 
 -- ---- what an entry answers and leaves, by whether it is refused
 

@@ -108,6 +108,18 @@ pointRefusal n d vectors id = firstOf (refuse1 n ∷ refuse2 d ∷ refuse3 n d v
 unfoldable pub buildRefusal : ℕ → ℕ → ℕ → ℕ → ℕ
 buildRefusal n d vectors table = firstOf (refuse1 n ∷ refuse2 d ∷ refuse3 n d vectors ∷ refuse4 n table ∷ [])
 
+-- a set, its table, a query and the id to start from, as every entry that is lent them looks at them first: 1 to 6
+unfoldable pub startRefusal : (n d vectors table query start : ℕ) → ℕ
+startRefusal n d vectors table query start =
+    firstOf
+    (refuse1 n
+    ∷ refuse2 d
+    ∷ refuse3 n d vectors
+    ∷ refuse4 n table
+    ∷ refuse5 d query
+    ∷ refuse6 n start
+    ∷ [])
+
 -- search: 1 to 10
 unfoldable pub searchRefusal : (n d vectors table query start threshold width k ids distances trail : ℕ) → ℕ
 searchRefusal n d vectors table query start threshold width k ids distances trail =

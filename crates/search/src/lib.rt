@@ -1,5 +1,5 @@
 // The search of document 01: explore from the start, then take the first k.
-use explore::Front;
+use see::Front;
 ghost use mathlib.Core.Path.{_≡_};
 ghost use mathlib.Core.List.{map};
 ghost use Prim.Native.Nat.{_≤_};
@@ -12,8 +12,10 @@ ghost use Rattle.rules.specs.Entries.{ask, searchAnswer, idsAfter, distancesAft
 ghost use Rattle.search.specs.Answer.{told, idOf, distanceOf};
 
 mod explore;
+mod follow;
 mod line;
 mod rows;
+mod see;
 
 // How many points were found, seen and walked.
 pub struct Counts {
@@ -45,18 +47,9 @@ fn search_refusal(
 ) -> u8
     ensures { λ r. ⌜ r ≡ searchRefusal n d vectors table query start threshold width k ids distances trail ⌝ }
 {
-    let refusal = space::set_refusal(n, d, vectors);
-    if refusal != 0 {
-        return refusal;
-    }
-    if table != n * n {
-        return 4;
-    }
-    if query != d {
-        return 5;
-    }
-    if n <= start {
-        return 6;
+    let started = space::start_refusal(n, d, vectors, table, query, start);
+    if started != 0 {
+        return started;
     }
     if space::is_outside(1, 128, width) {
         return 7;
@@ -142,7 +135,7 @@ pub fn search(
     let mut flags = [0u8; 128];
     let mut line = [0u32; 128];
     let nothing = Front { seen: 0, from: 0 };
-    let first = explore::see(
+    let first = see::see(
         n,
         d,
         vectors,
@@ -166,7 +159,7 @@ pub fn search(
         trail,
     );
     let seen = ways.seen;
-    let found = explore::smaller(k as usize, seen);
+    let found = space::smaller(k as usize, seen);
     answer(&line, found, ids, distances);
     Searched::Done(Counts {
         found,

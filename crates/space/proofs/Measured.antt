@@ -10,7 +10,8 @@ use borrow.Author.Tests.{lt-leb, leb-false}
 use Rattle.rules.specs.Points.{dist, coordinates, apart, away}
 use Rattle.rules.specs.Refusals.{setRefusal, pointRefusal}
 use Rattle.rules.specs.Entries.{pointOf}
-use Rattle.laws.proofs.Refusals.{SetOk, set-ok, point-order, skipped, else-none, else-both, after-new}
+use Rattle.laws.proofs.Refusals.{SetOk, set-ok, skipped, else-none, else-both, after-new}
+use Rattle.laws.proofs.RefusalOrder.{point-order}
 
 -- what is known of a point that is not refused
 pub point-ok : (n d len id : ℕ) → pointRefusal n d len id ≡ 0 → SetOk n d len × (id < n)

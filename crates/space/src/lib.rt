@@ -3,7 +3,7 @@ ghost use mathlib.Core.Path.{_≡_};
 ghost use Prim.Native.Nat.{_≤_, min};
 ghost use lib.ListN.{length, take};
 ghost use Rattle.rules.specs.Points.{dist};
-ghost use Rattle.rules.specs.Refusals.{outside, setRefusal, pointRefusal};
+ghost use Rattle.rules.specs.Refusals.{outside, setRefusal, startRefusal, pointRefusal};
 ghost use Rattle.rules.specs.Entries.{pointOf};
 
 mod blocks;
@@ -30,6 +30,33 @@ pub fn set_refusal(n: usize, d: usize, len: usize) -> u8
     }
     if len != n * d {
         return 3;
+    }
+    0
+}
+
+// Refusals 1 to 6, with which every entry begins that is lent a set, its table, a query and an id to start from, by the lengths of what is lent; 0 for none.
+pub fn start_refusal(
+    n: usize,
+    d: usize,
+    vectors: usize,
+    table: usize,
+    query: usize,
+    start: usize,
+) -> u8
+    ensures { λ r. ⌜ r ≡ startRefusal n d vectors table query start ⌝ }
+{
+    let refusal = set_refusal(n, d, vectors);
+    if refusal != 0 {
+        return refusal;
+    }
+    if table != n * n {
+        return 4;
+    }
+    if query != d {
+        return 5;
+    }
+    if n <= start {
+        return 6;
     }
     0
 }
@@ -61,7 +88,7 @@ pub fn point(n: usize, d: usize, vectors: &[i8], id: usize) -> &[i8]
 }
 
 // The smaller of two numbers.
-fn smaller(x: usize, y: usize) -> usize
+pub fn smaller(x: usize, y: usize) -> usize
     ensures { λ r. ⌜ r ≡ min x y ⌝ }
 {
     if x < y { x } else { y }

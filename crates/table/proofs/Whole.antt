@@ -14,7 +14,8 @@ use Rattle.rules.specs.Labels.{cell, tableOf}
 use Rattle.rules.specs.Refusals.{setRefusal, buildRefusal}
 use Rattle.laws.proofs.Tests.{below}
 use Rattle.laws.proofs.Table.{table-length, table-at, some-row, table-same}
-use Rattle.laws.proofs.Refusals.{set-ok, build-order, else-both, skipped, alike}
+use Rattle.laws.proofs.Refusals.{set-ok, else-both, skipped, alike}
+use Rattle.laws.proofs.RefusalOrder.{build-order}
 use Rattle.table.specs.Kept.{far, Filled, Distances}
 use Rattle.table.specs.Rows.{RowIn}
 use Rattle.table.proofs.Filling.{apart-comm}

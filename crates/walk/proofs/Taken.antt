@@ -3,36 +3,47 @@ use Prim.Native.Nat.{ℕ, _*_, _≤_, _<_}
 use native.Mathlib.Omega.{arith}
 use mathlib.Core.Path.{_≡_, sym, _∙_}
 use mathlib.Core.Bool.{Bool, true, false, cond}
-use mathlib.Core.List.{List}
+use mathlib.Core.List.{List, [], _∷_}
 use lib.Dec.{leb, ltb}
 use lib.IntN.{ℤ}
 use lib.ListN.{length}
-use borrow.Author.Tests.{leb-false, lt-leb}
-use Rattle.rules.specs.Refusals.{outside, differ, setRefusal, walkRefusal}
-use Rattle.laws.proofs.Refusals.{walk-order, else-none, else-both, skipped, alike, set-ok}
+use Rattle.rules.specs.Outcome.{firstOf}
+use Rattle.rules.specs.Refusals.{outside, differ, startRefusal, walkRefusal, refuse9}
+use Rattle.laws.proofs.Refusals.{else-none, else-both}
+use Rattle.laws.proofs.RefusalOrder.{walk-order, StartOk, start-ok, start-none}
 use Rattle.walk.specs.Taken.{Taken}
 
-pub taken : (n d : ℕ) (vectors : List ℤ) (table : List ℕ) (query : List ℤ) (id threshold : ℕ) → walkRefusal n d (length vectors) (length table) (length query) id threshold ≡ 0 → Taken n d vectors table query id
+-- it is not refused for what it starts from, nor for its threshold
+parts : (n d vectors table query id threshold : ℕ) → walkRefusal n d vectors table query id threshold ≡ 0 →
+    (startRefusal n d vectors table query id ≡ 0) × (firstOf (refuse9 threshold ∷ []) ≡ 0)
+parts n d vectors table query id threshold e =
+    else-both (startRefusal n d vectors table query id) _ (sym (walk-order n d vectors table query id threshold) ∙ e)
+
+pub taken : (n d : ℕ) (vectors : List ℤ) (table : List ℕ) (query : List ℤ) (id threshold : ℕ) →
+    walkRefusal n d (length vectors) (length table) (length query) id threshold ≡ 0 → Taken n d vectors table query id
 taken n d vectors table query id threshold e =
-    let set = else-both (setRefusal n d (length vectors)) _ (sym (walk-order n d (length vectors) (length table) (length query) id threshold) ∙ e) in
-    let a = skipped (differ (length table) (n * n)) 3 _ (set .1) in
-    let b = skipped (differ (length query) d) 4 _ (a .1) in
-    let c = skipped (leb n id) 5 _ (b .1) in
+    let starts = parts n d (length vectors) (length table) (length query) id threshold e .0 in
+    let ok = start-ok n d (length vectors) (length table) (length query) id starts in
     record {
-      set = record { given = set .0; few = set-ok n d (length vectors) (set .0) .few-points; as-many = alike (length query) d (b .0) };
-      whole = alike (length table) (n * n) (a .0);
-      within = leb-false n id (c .0);
+      set = record { given = ok .set-given; few = ok .few-points; as-many = ok .query-is };
+      whole = ok .table-is;
+      within = ok .start-in;
     }
 
 -- another id of the set is not refused either
-pub another : (n d vectors table query id threshold other : ℕ) → walkRefusal n d vectors table query id threshold ≡ 0 → other < n → walkRefusal n d vectors table query other threshold ≡ 0
+pub another : (n d vectors table query id threshold other : ℕ) → walkRefusal n d vectors table query id threshold ≡ 0 → other < n →
+    walkRefusal n d vectors table query other threshold ≡ 0
 another n d vectors table query id threshold other e l =
-    let set = else-both (setRefusal n d vectors) _ (sym (walk-order n d vectors table query id threshold) ∙ e) in
-    let a = skipped (differ table (n * n)) 3 _ (set .1) in
-    let b = skipped (differ query d) 4 _ (a .1) in
-    let c = skipped (leb n id) 5 _ (b .1) in
-    let t = skipped (ltb 32767 threshold) 8 0 (c .1) in
-    walk-order n d vectors table query other threshold ∙ else-none (set .0) _ ∙ rw (a .0, b .0, lt-leb n other l, t .0)
+    let both = parts n d vectors table query id threshold e in
+    let ok = start-ok n d vectors table query id (both .0) in
+    let starts : StartOk n d vectors table query other = record {
+      set-given = ok .set-given;
+      few-points = ok .few-points;
+      table-is = ok .table-is;
+      query-is = ok .query-is;
+      start-in = l;
+    } in
+    walk-order n d vectors table query other threshold ∙ else-none (start-none n d vectors table query other starts) _ ∙ both .1
 
 -- a walk's refusal is one of 1 to 6 and 9
 pub no-eighteen : (n d vectors table query id threshold : ℕ) → walkRefusal n d vectors table query id threshold ≤ 9

@@ -51,18 +51,9 @@ fn walk_refusal(
 ) -> u8
     ensures { λ r. ⌜ r ≡ walkRefusal n d (length (now (vectors .entry))) (length (now (table .entry))) (length (now (query .entry))) id threshold ⌝ }
 {
-    let refusal = space::set_refusal(n, d, vectors.len());
-    if refusal != 0 {
-        return refusal;
-    }
-    if table.len() != n * n {
-        return 4;
-    }
-    if query.len() != d {
-        return 5;
-    }
-    if n <= id as usize {
-        return 6;
+    let started = space::start_refusal(n, d, vectors.len(), table.len(), query.len(), id as usize);
+    if started != 0 {
+        return started;
     }
     if 32767 < threshold {
         return 9;

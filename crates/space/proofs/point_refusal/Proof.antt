@@ -2,7 +2,8 @@
 use mathlib.Core.Path.{sym, _∙_}
 use borrow.Author.Needs.{needs}
 use borrow.Author.Tests.{le-leb, lt-leb}
-use Rattle.laws.proofs.Refusals.{point-order, else-none, else-some}
+use Rattle.laws.proofs.Refusals.{else-none, else-some}
+use Rattle.laws.proofs.RefusalOrder.{point-order}
 use Rattle.space.proofs.point_refusal.Statement.{statement}
 use Rattle.space.proofs.point_refusal.Tie as tie
 

@@ -3,7 +3,8 @@ use mathlib.Core.Path.{sym, _∙_}
 use native.Mathlib.Omega.{arith}
 use borrow.Author.Needs.{needs}
 use borrow.Author.Tests.{eq-eqb, ne-eqb}
-use Rattle.laws.proofs.Refusals.{set-ok, build-order, else-none, else-some, small-square}
+use Rattle.laws.proofs.Refusals.{set-ok, else-none, else-some, small-square}
+use Rattle.laws.proofs.RefusalOrder.{build-order}
 use Rattle.table.proofs.build_refusal.Statement.{statement}
 use Rattle.table.proofs.build_refusal.Tie as tie
 

@@ -1,17 +1,16 @@
 -- `search::explore::explore` meets its contract: after each turn the flags, the line and the trail stand for the search's state. Assumes nothing.
-use Prim.Native.Nat.{_-_}
-use mathlib.Core.Path.{refl, sym, _∙_}
+use Prim.Native.Nat.{_-_, _≤_, _<_}
+use mathlib.Core.Path.{_≡_, refl, sym, _∙_}
+use mathlib.Core.Bool.{true}
+use lib.ListN.{length}
 use native.Mathlib.Omega.{arith}
 use Rattle.rules.specs.Points.{away}
+use Rattle.search.specs.Seen.{goesOn}
 use Rattle.search.proofs.Seeing.{given-small}
 use Rattle.search.proofs.Rounds.{Round, round-start, next-place, next-waits, room, round-step, round-end}
 use borrow.Author.Needs.{needs}
 use Rattle.search.proofs.explore.explore.Statement.{statement}
 use Rattle.search.proofs.explore.explore.Tie as tie
-use Rattle.search.proofs.explore.explore.Reads as reads
-use Rattle.search.proofs.explore.explore.Lts as lts
-use Rattle.search.proofs.explore.goes_on.Reads as goes-on-reads
-use Rattle.search.proofs.explore.visit.Reads as visit-reads
 
 abbrev Inv-loop : tie.InvT-loop
 Inv-loop n d vectors table query threshold width flags₀ line₀ trail₀ front₀ walked₀ flags line trail front walked =
@@ -21,69 +20,91 @@ abbrev μ-loop : tie.MeasureT-loop
 μ-loop n d vectors table query threshold width flags₀ line₀ trail₀ front₀ walked₀ flags line trail front walked =
     n - walked
 
--- src/explore.rt:197:5
-loop-holds : tie.Need-loop-holds Inv-loop μ-loop
-loop-holds c = round-start _ _ _ _ _ _ _ (given-small (c .before .before .before .before .pre .0)) (c .before .before .before .before .pre .1 .1 .0) (c .before .before .before .before .pre .1 .0)
+-- where the search goes on: the facts of the next visit, by what holds at the loop
+module _ (c : tie.Then1 Inv-loop μ-loop) where
+  abbrev entry : tie.Start Inv-loop μ-loop
+  entry = c .before .before .before .before .before .before .before
 
--- src/explore.rt:197:11
+  abbrev round : tie.At-loop Inv-loop μ-loop
+  round = c .before .before
+
+  small : entry .args .n ≤ 128
+  small = given-small (entry .pre .0)
+
+  goes : goesOn (round .loop .front .seen) (round .loop .front .from) (entry .args .width) ≡ true
+  goes = sym (c .before .goes-on .ensures) ∙ c .if1 .taken
+
+  in-line : round .loop .front .from < length (round .loop .line)
+  in-line = next-place _ _ _ _ _ _ _ small (round .loop .inv) goes
+
+  few-walked : round .loop .walked < entry .args .n
+  few-walked = room _ _ _ _ _ _ _ small (round .loop .inv) goes
+
+  in-trail : round .loop .walked < length (round .loop .trail)
+  in-trail = omega (arith, few-walked, round .loop .inv .tsize, entry .pre .1 .1 .1 .1)
+
+-- the visit of a turn, at its end
+abbrev going : tie.After-slice-known6 Inv-loop μ-loop → tie.Then1 Inv-loop μ-loop
+going c = c .before .before .before .before .before .before .before .before
+
+loop-holds : tie.Need-loop-holds Inv-loop μ-loop
+loop-holds c =
+    let pre = c .before .before .before .before .pre in
+    round-start _ _ _ _ _ _ _ (given-small (pre .0)) (pre .1 .1 .0) (pre .1 .0)
+
 goes-on-requires : tie.Need-goes-on-requires Inv-loop μ-loop
 goes-on-requires c κs = search needs
 
--- src/explore.rt:199:17
 mul-x : tie.Need-mul-x Inv-loop μ-loop
-mul-x c = omega (arith, next-place _ _ _ _ _ _ _ (given-small (c .before .before .before .before .before .before .before .pre .0)) (c .before .before .loop .inv) (sym (c .before .goes-on .ensures) ∙ c .if1 .taken))
+mul-x c = omega (arith, in-line c)
 
--- src/explore.rt:199:17
 slice-read-x : tie.Need-slice-read-x Inv-loop μ-loop
-slice-read-x c = next-place _ _ _ _ _ _ _ (given-small (c .before .before .before .before .before .before .before .before .pre .0)) (c .before .before .before .loop .inv) (sym (c .before .before .goes-on .ensures) ∙ c .before .if1 .taken)
+slice-read-x c = in-line (c .before)
 
--- src/explore.rt:200:25
 cast-trail : tie.Need-cast-trail Inv-loop μ-loop
 cast-trail c = search needs
 
--- src/explore.rt:200:9
 mul-trail : tie.Need-mul-trail Inv-loop μ-loop
-mul-trail c = omega (arith, room _ _ _ _ _ _ _ (given-small (c .before .before .before .before .before .before .before .before .pre .0)) (c .before .before .before .loop .inv) (sym (c .before .before .goes-on .ensures) ∙ c .before .if1 .taken), c .before .before .before .loop .inv .tsize, c .before .before .before .before .before .before .before .before .pre .1 .1 .1 .1)
+mul-trail c = omega (arith, in-trail (c .before))
 
--- src/explore.rt:200:9
 slice-write-trail : tie.Need-slice-write-trail Inv-loop μ-loop
-slice-write-trail c = omega (arith, room _ _ _ _ _ _ _ (given-small (c .before .before .before .before .before .before .before .before .pre .0)) (c .before .before .before .loop .inv) (sym (c .before .before .goes-on .ensures) ∙ c .before .if1 .taken), c .before .before .before .loop .inv .tsize, c .before .before .before .before .before .before .before .before .pre .1 .1 .1 .1)
+slice-write-trail c = in-trail (c .before)
 
--- src/explore.rt:202:53
 cast-visit : tie.Need-cast-visit Inv-loop μ-loop
 cast-visit c = search needs
 
--- src/explore.rt:201:9
 visit-requires : tie.Need-visit-requires Inv-loop μ-loop
-visit-requires c κs = (c .before .before .before .before .before .before .before .before .before .before .pre .0, (c .before .before .before .before .before .loop .inv .lined, (c .before .before .before .before .before .before .before .before .before .before .pre .1 .1 .1 .0, (next-waits _ _ _ _ _ _ _ (given-small (c .before .before .before .before .before .before .before .before .before .before .pre .0)) (c .before .before .before .before .before .loop .inv) (sym (c .before .before .before .before .goes-on .ensures) ∙ c .before .before .before .if1 .taken) .0, next-waits _ _ _ _ _ _ _ (given-small (c .before .before .before .before .before .before .before .before .before .before .pre .0)) (c .before .before .before .before .before .loop .inv) (sym (c .before .before .before .before .goes-on .ensures) ∙ c .before .before .before .if1 .taken) .1))))
+visit-requires c κs =
+    let t = c .before .before .before in
+    let x = next-waits _ _ _ _ _ _ _ (small t) (round t .loop .inv) (goes t) in
+    (entry t .pre .0, (round t .loop .inv .lined, (entry t .pre .1 .1 .1 .0, (x .0, x .1))))
 
--- src/explore.rt:204:9
 add-walked : tie.Need-add-walked Inv-loop μ-loop
-add-walked c = omega (arith, room _ _ _ _ _ _ _ (given-small (c .before .before .before .before .before .before .before .before .before .before .before .before .before .before .before .pre .0)) (c .before .before .before .before .before .before .before .before .before .before .loop .inv) (sym (c .before .before .before .before .before .before .before .before .before .goes-on .ensures) ∙ c .before .before .before .before .before .before .before .before .if1 .taken), (given-small (c .before .before .before .before .before .before .before .before .before .before .before .before .before .before .before .pre .0)))
+add-walked c = omega (arith, few-walked (going c), small (going c))
 
--- src/explore.rt:197:5
 loop-less : tie.Need-loop-less Inv-loop μ-loop
-loop-less c = omega (arith, room _ _ _ _ _ _ _ (given-small (c .before .before .before .before .before .before .before .before .before .before .before .before .before .before .before .pre .0)) (c .before .before .before .before .before .before .before .before .before .before .loop .inv) (sym (c .before .before .before .before .before .before .before .before .before .goes-on .ensures) ∙ c .before .before .before .before .before .before .before .before .if1 .taken))
+loop-less c = omega (arith, few-walked (going c))
 
--- src/explore.rt:197:5
 loop-again : tie.Need-loop-again Inv-loop μ-loop
-loop-again c = round-step _ _ _ _ _ _ _ (given-small (c .before .before .before .before .before .before .before .before .before .before .before .before .before .before .before .pre .0)) (c .before .before .before .before .before .before .before .before .before .before .loop .inv) (sym (c .before .before .before .before .before .before .before .before .before .goes-on .ensures) ∙ c .before .before .before .before .before .before .before .before .if1 .taken) (c .before .before .before .before .before .before .before .before .before .before .before .before .before .before .before .pre .1 .1 .1 .1) (c .before .before .before .before .visit .ensures) refl
+loop-again c =
+    let t = going c in
+    let visit = c .before .before .before .before .visit in
+    round-step _ _ _ _ _ _ _ (small t) (round t .loop .inv) (goes t) (entry t .pre .1 .1 .1 .1) (visit .ensures) refl
 
--- src/explore.rt:176:1
 same-length : tie.Need-same-length Inv-loop μ-loop
 same-length c = search needs
 
--- src/explore.rt:176:1
 same-length-2 : tie.Need-same-length-2 Inv-loop μ-loop
 same-length-2 c = search needs
 
--- src/explore.rt:176:1
 same-length-3 : tie.Need-same-length-3 Inv-loop μ-loop
 same-length-3 c = search needs
 
--- src/explore.rt:176:1
 returns : tie.Need-returns Inv-loop μ-loop
-returns c = round-end _ _ _ _ _ _ _ (given-small (c .before .before .before .before .before .before .before .pre .0)) (c .before .before .loop .inv) (sym (c .before .goes-on .ensures) ∙ c .if1 .left)
+returns c =
+    let round = c .before .before in
+    let pre = round .before .before .before .before .before .pre in
+    round-end _ _ _ _ _ _ _ (given-small (pre .0)) (round .loop .inv) (sym (c .before .goes-on .ensures) ∙ c .if1 .left)
 
 pub explore-spec : {M : Type 1} → statement M
 explore-spec =

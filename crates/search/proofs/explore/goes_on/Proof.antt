@@ -2,14 +2,10 @@
 use borrow.Author.Tests.{lt-ltb, le-ltb}
 use Rattle.search.proofs.explore.goes_on.Statement.{statement}
 use Rattle.search.proofs.explore.goes_on.Tie as tie
-use Rattle.search.proofs.explore.goes_on.Reads as reads
-use Rattle.search.proofs.explore.goes_on.Lts as lts
 
--- src/explore.rt:170:9
 returns : tie.Need-returns
 returns c = rw (lt-ltb _ _ (c .if1 .taken))
 
--- src/explore.rt:165:1
 returns-2 : tie.Need-returns-2
 returns-2 c = rw (le-ltb _ _ (c .if1 .left))
 

@@ -1,71 +1,68 @@
 -- `search::explore::visit` meets its contract. Assumes nothing.
+use Prim.Native.Nat.{_+_, _*_, _≤_}
 use native.Mathlib.Omega.{arith}
-use lib.ListN.{length-take, length-drop}
+use lib.ListN.{length, length-take, length-drop}
 use Rattle.search.proofs.Seeing.{given-small, flag-there, line-holds}
 use Rattle.search.proofs.Visiting.{row-fits, mark-lined, visited}
 use borrow.Author.Needs.{needs}
 use Rattle.search.proofs.explore.visit.Statement.{statement}
 use Rattle.search.proofs.explore.visit.Tie as tie
-use Rattle.search.proofs.explore.visit.Reads as reads
-use Rattle.search.proofs.explore.visit.Lts as lts
-use Rattle.search.proofs.explore.spread.Reads as spread-reads
-use Rattle.search.proofs.line.first_open.Reads as first-open-reads
 
--- src/explore.rt:153:5
+-- the row of x is within the table, as the body comes to it
+fits : (c : tie.After-slice-known2) →
+    let a = c .before .before .before .args in (a .x * a .n + a .n ≤ length (a .table .now)) × (length (a .table .now) ≤ 16384)
+fits c =
+    let pre = c .before .before .before .pre in
+    let f = row-fits _ _ (given-small (pre .0)) (pre .1 .1 .1 .0) in
+    (omega (arith, f .0, pre .1 .1 .0), omega (arith, f .1, pre .1 .1 .0))
+
 slice-write-flags : tie.Need-slice-write-flags
-slice-write-flags c = flag-there (c .before .before .before .pre .0) (c .before .before .before .pre .1 .0) (c .before .before .before .pre .1 .1 .1 .0)
+slice-write-flags c =
+    let pre = c .before .before .before .pre in
+    flag-there (pre .0) (pre .1 .0) (pre .1 .1 .1 .0)
 
--- src/explore.rt:154:13
 mul-a : tie.Need-mul-a
-mul-a c = omega (arith, (row-fits _ _ (given-small (c .before .before .before .pre .0)) (c .before .before .before .pre .1 .1 .1 .0)) .0, (row-fits _ _ (given-small (c .before .before .before .pre .0)) (c .before .before .before .pre .1 .1 .1 .0)) .1, c .before .before .before .pre .1 .1 .0)
+mul-a c = omega (arith, fits c .0, fits c .1)
 
--- src/explore.rt:155:13
 add-e : tie.Need-add-e
-add-e c = omega (arith, (row-fits _ _ (given-small (c .before .before .before .pre .0)) (c .before .before .before .pre .1 .1 .1 .0)) .0, (row-fits _ _ (given-small (c .before .before .before .pre .0)) (c .before .before .before .pre .1 .1 .1 .0)) .1, c .before .before .before .pre .1 .1 .0)
+add-e c = omega (arith, fits c .0, fits c .1)
 
--- src/explore.rt:157:31
 mul-spread : tie.Need-mul-spread
-mul-spread c = omega (arith, (row-fits _ _ (given-small (c .before .before .before .pre .0)) (c .before .before .before .pre .1 .1 .1 .0)) .0, (row-fits _ _ (given-small (c .before .before .before .pre .0)) (c .before .before .before .pre .1 .1 .1 .0)) .1, c .before .before .before .pre .1 .1 .0)
+mul-spread c = omega (arith, fits c .0, fits c .1)
 
--- src/explore.rt:157:31
 sub-spread : tie.Need-sub-spread
 sub-spread c = search needs
 
--- src/explore.rt:157:31
 part-spread-start : tie.Need-part-spread-start
 part-spread-start c = search needs
 
--- src/explore.rt:157:31
 part-spread-end : tie.Need-part-spread-end
-part-spread-end c = omega (arith, (row-fits _ _ (given-small (c .before .before .before .pre .0)) (c .before .before .before .pre .1 .1 .1 .0)) .0, c .before .before .before .pre .1 .1 .0)
+part-spread-end c = fits c .0
 
--- src/explore.rt:156:9
 spread-requires : tie.Need-spread-requires
-spread-requires c κs = (
-  c .before .before .before .before .before .before .pre .0,
-  (
-    mark-lined _ _ (flag-there (c .before .before .before .before .before .before .pre .0) (c .before .before .before .before .before .before .pre .1 .0) (c .before .before .before .before .before .before .pre .1 .1 .1 .0)) (c .before .before .before .before .before .before .pre .1 .1 .1 .1) (c .before .before .before .before .before .before .pre .1 .0),
-    simp (length-take, length-drop) (omega (arith, (row-fits _ _ (given-small (c .before .before .before .before .before .before .pre .0)) (c .before .before .before .before .before .before .pre .1 .1 .1 .0)) .0, c .before .before .before .before .before .before .pre .1 .1 .0)),
-  ),
-)
+spread-requires c κs =
+    let s = c .before .before .before in
+    let pre = s .before .before .before .pre in
+    let there = flag-there (pre .0) (pre .1 .0) (pre .1 .1 .1 .0) in
+    (pre .0, (mark-lined _ _ there (pre .1 .1 .1 .1) (pre .1 .0), simp (length-take, length-drop) (omega (arith, fits s .0))))
 
--- src/explore.rt:160:9
 first-open-requires : tie.Need-first-open-requires
 first-open-requires c κs =
-    let h = c .before .before .before .before .before .before .spread .ensures .1 in
-    (h .from-in, line-holds (c .before .before .before .before .before .before .before .before .before .before .before .before .before .pre .0) h, h .flags-size)
+    let spread = c .before .before .before .before .before .before in
+    let h = spread .spread .ensures .1 in
+    let pre = spread .before .before .before .before .before .before .before .pre in
+    (h .from-in, line-holds (pre .0) h, h .flags-size)
 
--- src/explore.rt:135:1
 same-length : tie.Need-same-length
 same-length c = search needs
 
--- src/explore.rt:135:1
 same-length-2 : tie.Need-same-length-2
 same-length-2 c = search needs
 
--- src/explore.rt:135:1
 returns : tie.Need-returns
-returns c = visited (c .before .before .before .before .before .before .before .spread .ensures .0) (c .before .before .before .before .before .before .before .spread .ensures .1) (c .first-open .ensures)
+returns c =
+    let spread = c .before .before .before .before .before .before .before .spread in
+    visited (spread .ensures .0) (spread .ensures .1) (c .first-open .ensures)
 
 pub visit-spec : {M : Type 1} → statement M
 visit-spec =

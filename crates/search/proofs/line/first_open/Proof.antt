@@ -5,8 +5,6 @@ use Rattle.search.proofs.Places.{Passing, pass-start, pass-step, pass-o
 use borrow.Author.Needs.{needs}
 use Rattle.search.proofs.line.first_open.Statement.{statement}
 use Rattle.search.proofs.line.first_open.Tie as tie
-use Rattle.search.proofs.line.first_open.Reads as reads
-use Rattle.search.proofs.line.first_open.Lts as lts
 
 abbrev Inv-loop : tie.InvT-loop
 Inv-loop line flags seen from at₀ at = Passing line flags seen from at
@@ -14,43 +12,33 @@ Inv-loop line flags seen from at₀ at = Passing line flags seen from at
 abbrev μ-loop : tie.MeasureT-loop
 μ-loop line flags seen from at₀ at = seen - at
 
--- src/line.rt:40:5
 loop-holds : tie.Need-loop-holds Inv-loop μ-loop
 loop-holds c = pass-start _ _ _ _ (search needs)
 
--- src/line.rt:41:19
 mul-id : tie.Need-mul-id Inv-loop μ-loop
 mul-id c = search needs
 
--- src/line.rt:41:19
 shared-slice-read-id : tie.Need-shared-slice-read-id Inv-loop μ-loop
 shared-slice-read-id c = search needs
 
--- src/line.rt:41:18
 cast-id : tie.Need-cast-id Inv-loop μ-loop
 cast-id c = search needs
 
--- src/line.rt:42:12
 shared-slice-read-if1 : tie.Need-shared-slice-read-if1 Inv-loop μ-loop
 shared-slice-read-if1 c = search needs
 
--- src/line.rt:43:13
 returns : tie.Need-returns Inv-loop μ-loop
 returns c = pass-open (c .before .before .before .before .loop .inv) (eq-eqb _ _ (c .if1 .taken))
 
--- src/line.rt:45:9
 add-at : tie.Need-add-at Inv-loop μ-loop
 add-at c = search needs
 
--- src/line.rt:40:5
 loop-less : tie.Need-loop-less Inv-loop μ-loop
 loop-less c = search needs
 
--- src/line.rt:40:5
 loop-again : tie.Need-loop-again Inv-loop μ-loop
 loop-again c = pass-step (c .before .before .before .before .loop .inv) (search needs) (ne-eqb _ _ (c .if1 .left))
 
--- src/line.rt:35:1
 returns-2 : tie.Need-returns-2 Inv-loop μ-loop
 returns-2 c = pass-none (c .before .loop .inv) (search needs)
 

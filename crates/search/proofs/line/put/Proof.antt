@@ -4,27 +4,19 @@ use Rattle.search.proofs.Places.{put-there}
 use borrow.Author.Needs.{needs}
 use Rattle.search.proofs.line.put.Statement.{statement}
 use Rattle.search.proofs.line.put.Tie as tie
-use Rattle.search.proofs.line.put.Reads as reads
-use Rattle.search.proofs.line.put.Lts as lts
-use Rattle.search.proofs.line.shift.Reads as shift-reads
 
--- src/line.rt:29:9
 shift-requires : tie.Need-shift-requires
 shift-requires c κs = search needs
 
--- src/line.rt:30:5
 mul-line : tie.Need-mul-line
 mul-line c = search needs
 
--- src/line.rt:30:5
 slice-write-line : tie.Need-slice-write-line
 slice-write-line c = search needs
 
--- src/line.rt:25:1
 same-length : tie.Need-same-length
 same-length c = search needs
 
--- src/line.rt:25:1
 returns : tie.Need-returns
 returns c = put-there _ _ _ _ _ _ (c .before .before .before .before .before .pre) (c .before .before .shift .ensures) refl
 

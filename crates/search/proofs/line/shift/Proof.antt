@@ -4,8 +4,6 @@ use Rattle.search.proofs.Places.{Shifting, shift-start, shift-step, shi
 use borrow.Author.Needs.{needs}
 use Rattle.search.proofs.line.shift.Statement.{statement}
 use Rattle.search.proofs.line.shift.Tie as tie
-use Rattle.search.proofs.line.shift.Reads as reads
-use Rattle.search.proofs.line.shift.Lts as lts
 
 abbrev Inv-loop : tie.InvT-loop
 Inv-loop line₀ seen key at₀ line at = Shifting line₀ seen key at line
@@ -13,55 +11,42 @@ Inv-loop line₀ seen key at₀ line at = Shifting line₀ seen key at line
 abbrev μ-loop : tie.MeasureT-loop
 μ-loop line₀ seen key at₀ line at = at
 
--- src/line.rt:13:5
 loop-holds : tie.Need-loop-holds Inv-loop μ-loop
 loop-holds c = shift-start _ _ _
 
--- src/line.rt:14:22
 sub-x : tie.Need-sub-x Inv-loop μ-loop
 sub-x c = search needs
 
--- src/line.rt:14:17
 mul-x : tie.Need-mul-x Inv-loop μ-loop
 mul-x c = search needs
 
--- src/line.rt:14:17
 slice-read-x : tie.Need-slice-read-x Inv-loop μ-loop
 slice-read-x c = search needs
 
--- src/line.rt:16:13
 same-length : tie.Need-same-length Inv-loop μ-loop
 same-length c = search needs
 
--- src/line.rt:16:13
 returns : tie.Need-returns Inv-loop μ-loop
 returns c = shift-stop (c .before .before .before .loop .inv) (search needs) (search needs)
 
--- src/line.rt:18:9
 mul-line : tie.Need-mul-line Inv-loop μ-loop
 mul-line c = search needs
 
--- src/line.rt:18:9
 slice-write-line : tie.Need-slice-write-line Inv-loop μ-loop
 slice-write-line c = search needs
 
--- src/line.rt:19:9
 sub-at : tie.Need-sub-at Inv-loop μ-loop
 sub-at c = search needs
 
--- src/line.rt:13:5
 loop-less : tie.Need-loop-less Inv-loop μ-loop
 loop-less c = search needs
 
--- src/line.rt:13:5
 loop-again : tie.Need-loop-again Inv-loop μ-loop
 loop-again c = shift-step (c .before .before .before .loop .inv) (search needs) (search needs) (search needs) _ refl
 
--- src/line.rt:8:1
 same-length-2 : tie.Need-same-length-2 Inv-loop μ-loop
 same-length-2 c = search needs
 
--- src/line.rt:8:1
 returns-2 : tie.Need-returns-2 Inv-loop μ-loop
 returns-2 c = shift-front (c .before .loop .inv) (search needs)
 

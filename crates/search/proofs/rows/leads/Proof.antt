@@ -2,14 +2,10 @@
 use borrow.Author.Tests.{eq-eqb, ne-eqb}
 use Rattle.search.proofs.rows.leads.Statement.{statement}
 use Rattle.search.proofs.rows.leads.Tie as tie
-use Rattle.search.proofs.rows.leads.Reads as reads
-use Rattle.search.proofs.rows.leads.Lts as lts
 
--- src/rows.rt:17:1
 returns : tie.Need-returns
 returns c = rw (eq-eqb (c .before .args .flag) 0 (c .if1 .taken))
 
--- src/rows.rt:17:1
 returns-2 : tie.Need-returns-2
 returns-2 c = rw (ne-eqb (c .before .args .flag) 0 (c .if1 .left))
 

@@ -1,4 +1,4 @@
--- `search::explore::scan` meets its contract. Assumes nothing.
+-- `search::follow::scan` meets its contract. Assumes nothing.
 use Prim.Native.Nat.{_-_, _≤_}
 use native.Mathlib.Nat.{le-refl}
 use native.Mathlib.Omega.{arith}
@@ -7,11 +7,8 @@ use Rattle.search.specs.Seen.{keyOf, Lined}
 use Rattle.search.proofs.Seeing.{given-small}
 use Rattle.search.proofs.Marking.{part-none, part-step, part-to}
 use borrow.Author.Needs.{needs}
-use Rattle.search.proofs.explore.scan.Statement.{statement}
-use Rattle.search.proofs.explore.scan.Tie as tie
-use Rattle.search.proofs.explore.scan.Reads as reads
-use Rattle.search.proofs.explore.scan.Lts as lts
-use Rattle.search.proofs.explore.look.Reads as look-reads
+use Rattle.search.proofs.follow.scan.Statement.{statement}
+use Rattle.search.proofs.follow.scan.Tie as tie
 
 abbrev Inv-loop : tie.InvT-loop
 Inv-loop n d vectors query row threshold from end flags₀ line₀ front₀ id₀ flags line front id =
@@ -20,25 +17,20 @@ Inv-loop n d vectors query row threshold from end flags₀ line₀ front₀ id�
 abbrev μ-loop : tie.MeasureT-loop
 μ-loop n d vectors query row threshold from end flags₀ line₀ front₀ id₀ flags line front id = end - id
 
--- src/explore.rt:116:5
 loop-holds : tie.Need-loop-holds Inv-loop μ-loop
 loop-holds c = (le-refl _, c .before .before .before .pre .1 .1 .0, part-none _ _ _ _, c .before .before .before .pre .1 .0)
 
--- src/explore.rt:117:9
 look-requires : tie.Need-look-requires Inv-loop μ-loop
 look-requires c κs =
     let s = c .before .before .before .before .before .before .before in
     (s .pre .0, (c .before .before .before .loop .inv .3, (omega (arith, c .before .before .loop-test .taken, s .pre .1 .1 .1), s .pre .1 .1 .2)))
 
--- src/explore.rt:118:9
 add-id : tie.Need-add-id Inv-loop μ-loop
 add-id c = search needs
 
--- src/explore.rt:116:5
 loop-less : tie.Need-loop-less Inv-loop μ-loop
 loop-less c = search needs
 
--- src/explore.rt:116:5
 loop-again : tie.Need-loop-again Inv-loop μ-loop
 loop-again c =
     let l = c .before .before .before .before .before .before .before .before in
@@ -51,15 +43,12 @@ loop-again c =
       look .look .ensures .1,
     )
 
--- src/explore.rt:95:1
 same-length : tie.Need-same-length Inv-loop μ-loop
 same-length c = search needs
 
--- src/explore.rt:95:1
 same-length-2 : tie.Need-same-length-2 Inv-loop μ-loop
 same-length-2 c = search needs
 
--- src/explore.rt:95:1
 returns : tie.Need-returns Inv-loop μ-loop
 returns c = (part-to (c .before .loop .inv .2) (c .before .loop .inv .1) (c .loop-test .left), c .before .loop .inv .3)
 

@@ -1,16 +1,12 @@
--- `search::explore::follow` meets its contract. Assumes nothing.
+-- `search::follow::follow` meets its contract. Assumes nothing.
 use Prim.Native.Nat.{_-_, _≤_}
 use native.Mathlib.Omega.{arith}
 use Rattle.search.specs.Rows.{Part}
 use Rattle.search.specs.Seen.{keyOf, Lined}
 use Rattle.search.proofs.Marking.{part-none, part-join, part-end}
 use borrow.Author.Needs.{needs}
-use Rattle.search.proofs.explore.follow.Statement.{statement}
-use Rattle.search.proofs.explore.follow.Tie as tie
-use Rattle.search.proofs.explore.follow.Reads as reads
-use Rattle.search.proofs.explore.follow.Lts as lts
-use Rattle.search.proofs.explore.block.Reads as block-reads
-use Rattle.search.proofs.explore.smaller.Reads as smaller-reads
+use Rattle.search.proofs.follow.follow.Statement.{statement}
+use Rattle.search.proofs.follow.follow.Tie as tie
 
 abbrev Inv-loop : tie.InvT-loop
 Inv-loop n d vectors query row threshold flags₀ line₀ front₀ id₀ flags line front id =
@@ -19,23 +15,18 @@ Inv-loop n d vectors query row threshold flags₀ line₀ front₀ id₀ flags l
 abbrev μ-loop : tie.MeasureT-loop
 μ-loop n d vectors query row threshold flags₀ line₀ front₀ id₀ flags line front id = n - id
 
--- src/explore.rt:172:5
 loop-holds : tie.Need-loop-holds Inv-loop μ-loop
 loop-holds c = (search needs, part-none _ _ _ _, c .before .before .before .pre .1 .0)
 
--- src/explore.rt:173:27
 sub-smaller : tie.Need-sub-smaller Inv-loop μ-loop
 sub-smaller c = search needs
 
--- src/explore.rt:173:19
 smaller-requires : tie.Need-smaller-requires Inv-loop μ-loop
 smaller-requires c κs = search needs
 
--- src/explore.rt:173:19
 add-end : tie.Need-add-end Inv-loop μ-loop
 add-end c = search needs
 
--- src/explore.rt:174:9
 block-requires : tie.Need-block-requires Inv-loop μ-loop
 block-requires c κs =
     let l = c .before .before .before .before in
@@ -43,11 +34,9 @@ block-requires c κs =
     let size = c .before .before .smaller .ensures in
     (s .pre .0, (l .loop .inv .2, (omega (arith, size), omega (arith, size, l .loop .inv .0), s .pre .1 .1)))
 
--- src/explore.rt:172:5
 loop-less : tie.Need-loop-less Inv-loop μ-loop
 loop-less c = search needs
 
--- src/explore.rt:172:5
 loop-again : tie.Need-loop-again Inv-loop μ-loop
 loop-again c =
     let block = c .before .before .before .before in
@@ -58,15 +47,12 @@ loop-again c =
       block .block .ensures .1,
     )
 
--- src/explore.rt:153:1
 same-length : tie.Need-same-length Inv-loop μ-loop
 same-length c = search needs
 
--- src/explore.rt:153:1
 same-length-2 : tie.Need-same-length-2 Inv-loop μ-loop
 same-length-2 c = search needs
 
--- src/explore.rt:153:1
 returns : tie.Need-returns Inv-loop μ-loop
 returns c = (part-end (c .before .loop .inv .1) (c .loop-test .left), c .before .loop .inv .2)
 

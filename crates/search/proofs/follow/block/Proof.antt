@@ -1,21 +1,15 @@
--- `search::explore::block` meets its contract. Assumes nothing.
+-- `search::follow::block` meets its contract. Assumes nothing.
 use native.Mathlib.Nat.{le-trans}
 use native.Mathlib.Omega.{arith}
 use Rattle.search.proofs.Seeing.{given-small}
 use Rattle.search.proofs.Marking.{part-skip, block-fits}
 use borrow.Author.Needs.{needs}
-use Rattle.search.proofs.explore.block.Statement.{statement}
-use Rattle.search.proofs.explore.block.Tie as tie
-use Rattle.search.proofs.explore.block.Reads as reads
-use Rattle.search.proofs.explore.block.Lts as lts
-use Rattle.search.proofs.explore.scan.Reads as scan-reads
-use Rattle.search.proofs.rows.sixteen.Reads as sixteen-reads
+use Rattle.search.proofs.follow.block.Statement.{statement}
+use Rattle.search.proofs.follow.block.Tie as tie
 
--- src/explore.rt:144:8
 sub-if1 : tie.Need-sub-if1
 sub-if1 c = search needs
 
--- src/explore.rt:145:24
 sixteen-requires : tie.Need-sixteen-requires
 sixteen-requires c κs =
     let s = c .before .before .before .before .before in
@@ -23,29 +17,23 @@ sixteen-requires c κs =
     let is16 = c .before .if1 .taken in
     (block-fits is16 (row .0) (row .1) _ (row .2), block-fits is16 (row .0) (le-trans (row .1) (given-small (s .pre .0))) _ (s .pre .1 .0 .flags-size))
 
--- src/explore.rt:146:13
 same-length : tie.Need-same-length
 same-length c = search needs
 
--- src/explore.rt:146:13
 returns : tie.Need-returns
 returns c =
     let s = c .before .before .before .before .before .before .before in
     (part-skip (c .before .sixteen .ensures) (c .if2 .taken) (omega (arith, c .before .before .before .if1 .taken)), s .pre .1 .0)
 
--- src/explore.rt:149:5
 scan-requires : tie.Need-scan-requires
 scan-requires c κs = search needs
 
--- src/explore.rt:125:1
 same-length-2 : tie.Need-same-length-2
 same-length-2 c = search needs
 
--- src/explore.rt:125:1
 same-length-3 : tie.Need-same-length-3
 same-length-3 c = search needs
 
--- src/explore.rt:125:1
 returns-2 : tie.Need-returns-2
 returns-2 c = search needs
 
