@@ -18,9 +18,13 @@ pub mod Refusals
 pub mod Table
 pub mod Limits
 pub mod Bits
+pub mod Values
 pub mod Packing
+pub mod FourFields
+pub mod Numbers
 pub mod Asks
 pub mod Fields
 pub mod Writable
-pub mod RoundTrip
+pub mod ReadBack
+pub mod WriteBack
 pub mod OneAsk
