@@ -1,7 +1,7 @@
 -- Fields read out of a sheet, whatever the sheet is: how large they are, and where their bits stand. Assumes nothing.
 use mathlib.Core.Path.{_≡_, refl, sym, ap, ap₂, _∙_}
 use mathlib.Core.Bool.{Bool}
-use mathlib.Core.List.{List, [], _∷_, _++_, append-assoc}
+use mathlib.Core.List.{List, [], _∷_, _++_}
 use Prim.Native.Nat.{ℕ, zero, suc, _+_, _-_, _*_, _/_, _%_, _^_, _≤_, _<_, min}
 use native.Mathlib.Omega.{arith}
 use lib.ListN.{length, take, drop, length-drop, take-append-drop}
@@ -85,12 +85,6 @@ number-part bs f w h =
     ∙ field (number bs) w k
 
 -- ---- the bits of some of the bytes
-
-pub unpacked-append : (xs ys : List ℕ) → unpacked (xs ++ ys) ≡ unpacked xs ++ unpacked ys
-unfolding unpacked
-unpacked-append [] ys = refl
-unpacked-append (x ∷ xs) ys =
-    ap (λ (l : List Bool). bits 8 x ++ l) (unpacked-append xs ys) ∙ sym (append-assoc (bits 8 x) (unpacked xs) (unpacked ys))
 
 pub drop-unpacked : (j : ℕ) (ys : List ℕ) → drop (j * 8) (unpacked ys) ≡ unpacked (drop j ys)
 unfolding unpacked

@@ -20,9 +20,13 @@ pub mod Table
 pub mod Labelled
 pub mod Limits
 pub mod Bits
+pub mod Values
 pub mod Packing
+pub mod FourFields
+pub mod Numbers
 pub mod Asks
 pub mod Fields
 pub mod Writable
-pub mod RoundTrip
+pub mod ReadBack
+pub mod WriteBack
 pub mod OneAsk

@@ -2,15 +2,12 @@
 use mathlib.Core.Path.{_≡_, refl, ap, ap₂, _∙_}
 use mathlib.Core.Bool.{Bool}
 use mathlib.Core.List.{List, [], _∷_, _++_}
-use Prim.Native.Nat.{ℕ, zero, suc, _+_, _-_, _*_, _<_}
-use native.Mathlib.Nat.{lt-of-lt-of-le}
+use Prim.Native.Nat.{ℕ, zero, suc, _+_, _*_}
 use native.Mathlib.Omega.{arith}
-use lib.ListN.{length, take, drop, length-append, length-take, length-drop, take-append-drop}
+use lib.ListN.{length, take, drop, length-append, length-drop, take-append-drop}
 use lib.Seq.{take-at, drop-at, length-take-le, take-append-le, drop-append-le}
-use lib.Pow.{pow-mono}
-use lib.Dec.{lit<}
 use Rattle.rules.specs.Bits.{bits, number, packed, unpacked, byteCount, filled, bytesOf, Bytes}
-use Rattle.laws.proofs.Bits.{length-bits, number-bits-lt, bits-of-number, number-lt, length-zeros}
+use Rattle.laws.proofs.Bits.{length-bits, number-bits-lt, bits-of-number, length-zeros}
 
 pub length-packed : (n : ℕ) (bs : List Bool) → length (packed n bs) ≡ n
 unfolding packed
@@ -57,12 +54,6 @@ packed-append (suc j) k A B e =
     ∙ ap₂ (λ (x y : List Bool). number x ∷ packed (j + k) y) (take-append-le 8 A B (omega arith)) (drop-append-le 8 A B (omega arith))
     ∙ ap (λ (r : List ℕ). number (take 8 A) ∷ r) (packed-append j k (drop 8 A) B (rw (length-drop 8 A) (omega arith)))
 
-pub packed-bytes : (n : ℕ) (bs : List Bool) → Bytes (packed n bs)
-unfolding packed Bytes
-packed-bytes zero bs i = lit< tt
-packed-bytes (suc n) bs zero = lt-of-lt-of-le (number-lt (take 8 bs)) (pow-mono {j = 8} (rw (length-take 8 bs) (omega arith)))
-packed-bytes (suc n) bs (suc i) = packed-bytes n (drop 8 bs) i
-
 -- ---- filling
 
 pub length-filled : (bs : List Bool) → length (filled bs) ≡ byteCount (length bs) * 8
@@ -76,7 +67,3 @@ length-bytesOf bs = length-packed (byteCount (length bs)) (filled bs)
 pub unpacked-bytesOf : (bs : List Bool) → unpacked (bytesOf bs) ≡ filled bs
 unfolding bytesOf
 unpacked-bytesOf bs = unpacked-packed (byteCount (length bs)) (filled bs) (length-filled bs)
-
-pub bytesOf-bytes : (bs : List Bool) → Bytes (bytesOf bs)
-unfolding bytesOf
-bytesOf-bytes bs = packed-bytes (byteCount (length bs)) (filled bs)

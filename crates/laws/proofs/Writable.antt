@@ -11,7 +11,8 @@ use borrow.Author.Tests.{le-ltb, ltb-false, eq-eqb, not-false}
 use Rattle.rules.specs.Bits.{byteCount, allFit}
 use Rattle.rules.specs.Sheet.{Contents, bitCount, sheetLength, points, coords, width, askCount, required, filling}
 use Rattle.rules.specs.Outcome.{orElse, firstOf}
-use Rattle.rules.specs.Refusals.{outside, differ, refuse1, refuse2, refuse3, refuse5, refuse11, refuse12, refuse13, refuse14, asksRefusal, writerRefusal, sheetRefusal}
+use Rattle.rules.specs.Refusals.{outside, differ, refuse1, refuse2, refuse3, refuse5, refuse11, refuse12, refuse13, refuse14}
+use Rattle.rules.specs.Refusals.{asksRefusal, writerRefusal, sheetRefusal}
 use Rattle.laws.proofs.Tests.{or-off, or-off-r, and-l, and-r}
 use Rattle.laws.proofs.Refusals.{else-both, skipped, inside, alike}
 
@@ -73,6 +74,15 @@ shaped n d c asks vectors numbers queries e =
       queries-are = alike queries (asks * d) (p₆ .0);
     }
 
+abbrev pub shapeOf : Contents → ℕ
+shapeOf k = shapeRefusal (k .n) (k .d) (k .c) (k .asks) (length (k .vectors)) (length (k .numbers)) (length (k .queries))
+
+abbrev pub ShapedOf : Contents → Type 0
+ShapedOf k = Shaped (k .n) (k .d) (k .c) (k .asks) (length (k .vectors)) (length (k .numbers)) (length (k .queries))
+
+pub shaped-of : (k : Contents) → shapeOf k ≡ 0 → ShapedOf k
+shaped-of k e = shaped (k .n) (k .d) (k .c) (k .asks) (length (k .vectors)) (length (k .numbers)) (length (k .queries)) e
+
 abbrev refusalAt : Contents → ℕ → ℕ
 refusalAt k output = writerRefusal (k .n) (k .d) (k .c) (k .asks) (k .vectors) (k .numbers) (k .queries) output
 
@@ -89,9 +99,9 @@ unfolding writerRefusal shapeRefusal
 writable k output e =
     let asks = asksRefusal (k .asks) (k .numbers) in
     let fit = allFit (k .c) (k .vectors) && allFit (k .c) (k .queries) in
-    let p = else-both (shapeRefusal (k .n) (k .d) (k .c) (k .asks) (length (k .vectors)) (length (k .numbers)) (length (k .queries))) (orElse asks (lastOf k output)) e in
+    let p = else-both (shapeOf k) (orElse asks (lastOf k output)) e in
     let q = else-both asks (lastOf k output) (p .1) in
-    let s = shaped (k .n) (k .d) (k .c) (k .asks) (length (k .vectors)) (length (k .numbers)) (length (k .queries)) (p .0) in
+    let s = shaped-of k (p .0) in
     let x = skipped (not fit) 12 _ (q .1) in
     let y = skipped (ltb output (lengthOf k)) 13 _ (x .1) in
     let all = not-false fit (x .0) in (
@@ -135,8 +145,10 @@ not-refused k output w room =
     )
 
 -- the largest sheet has 135,156 bits, in 16,895 bytes
-pub few-products : (n d c asks : ℕ) → n ≤ 128 → d ≤ 64 → c ≤ 8 → asks ≤ 127
-    → (n * d ≤ 8192) × (n * d * c ≤ 65536) × (d * c ≤ 512) × (asks * (36 + d * c) ≤ 69596)
+abbrev pub FewProducts : (n d c asks : ℕ) → Type 0
+FewProducts n d c asks = (n * d ≤ 8192) × (n * d * c ≤ 65536) × (d * c ≤ 512) × (asks * (36 + d * c) ≤ 69596)
+
+pub few-products : (n d c asks : ℕ) → n ≤ 128 → d ≤ 64 → c ≤ 8 → asks ≤ 127 → FewProducts n d c asks
 few-products n d c asks hn hd hc ha =
     let a : n * d ≤ 128 * 64 = mul-le-mul hn hd in
     let b : d * c ≤ 64 * 8 = mul-le-mul hd hc in

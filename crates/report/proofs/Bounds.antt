@@ -22,7 +22,7 @@ use Rattle.rules.specs.Entries.{Ask, farness, orderOf, edgesOf, searched, nearI
 use Rattle.rules.specs.Lines.{part, parts, pairs, setLine, foundLine, askRefusedLine, nearLine, trailLine, refusedLine}
 use Rattle.rules.specs.Program.{askOf, linesOf, asksLines, printed}
 use Rattle.laws.proofs.Tests.{and-l, and-r, count-le}
-use Rattle.laws.proofs.Bits.{length-values, values-fit, fit-take, fit-drop}
+use Rattle.laws.proofs.Values.{length-values, values-fit, fit-take, fit-drop}
 use Rattle.laws.proofs.Fields.{points-small, coords-small, width-small}
 use Rattle.laws.proofs.Distances.{gap-le}
 use Rattle.laws.proofs.Keyed.{keyed-ordered}

@@ -20,7 +20,7 @@ use Rattle.rules.specs.Entries.{Header, Numbers, Ask, ask, numbersOf, headerAns
 use Rattle.rules.specs.Lines.{setLine, refusedLine}
 use Rattle.rules.specs.Program.{askOf, linesOf, asksLines, printed}
 use Rattle.laws.proofs.Tests.{le-or-lt}
-use Rattle.laws.proofs.Bits.{length-values}
+use Rattle.laws.proofs.Values.{length-values}
 use Rattle.laws.proofs.Fields.{points-small, coords-small}
 use Rattle.laws.proofs.Refusals.{else-none, skipped, outcome-gives, outcome-refused, after-new}
 use Rattle.lines.specs.declared.Placed.{Placed}

@@ -1,72 +1,21 @@
--- Values and asks put one after the other: what is left, put where the loop is, gives what all of them give. Assumes nothing.
+-- Asks put one after the other: what is left, put where the loop is, gives what all of them give. Assumes nothing.
 use mathlib.Core.Path.{_≡_, refl, sym, ap, _∙_}
 use mathlib.Core.Bool.{true}
-use mathlib.Core.List.{List, [], _∷_, _++_, append-assoc}
-use Prim.Native.Nat.{ℕ, suc, _+_, _-_, _*_, _^_, _≤_, _<_}
-use native.Mathlib.Nat.{mul-le-mul-right, lt-of-lt-of-le}
-use native.Mathlib.Numerals.{add-one}
+use mathlib.Core.List.{List, _++_, append-assoc}
+use Prim.Native.Nat.{ℕ, suc, _+_, _-_, _*_, _≤_, _<_}
+use native.Mathlib.Nat.{mul-le-mul-right}
 use native.Mathlib.Omega.{arith}
-use lib.ListN.{length, take, drop, getD, length-append, length-drop, drop-of-length-le}
-use lib.Seq.{drop-drop, drop-cons, length-take-le}
-use lib.Pow.{suc-ones, pow-add, pow-mono}
-use lib.IntN.{ℤ, pos, negsuc}
-use borrow.Author.Tests.{ltb-true}
-use mir.Syntax.{w8}
-use mir.Val.{SFits, toZ, ofZ}
-use mir.ValLaws.{toZ-ofZ}
-use Rattle.rules.specs.Bits.{bits, fits, allFit, twos, valueBits}
+use lib.ListN.{length, take, drop, getD, length-append, length-drop}
+use lib.Seq.{drop-drop, length-take-le}
+use lib.IntN.{ℤ}
+use Rattle.rules.specs.Bits.{bits, allFit, valueBits}
 use Rattle.rules.specs.Sheet.{numberBits, askBits}
 use Rattle.rules.specs.Refusals.{askRefusal, asksRefusal}
-use Rattle.laws.proofs.Bits.{bits-above, length-bits, length-valueBits, valueBits-cons, fit-take, fit-drop, fit-at}
-use Rattle.laws.proofs.Asks.{asks-both, length-numberBits, askBits-suc}
+use Rattle.laws.proofs.Values.{length-valueBits, fit-take, fit-drop}
+use Rattle.laws.proofs.Numbers.{four, asks-both, length-numberBits}
+use Rattle.laws.proofs.Asks.{askBits-suc}
 use Rattle.sheet.specs.Put.{putBits}
 use Rattle.sheet.proofs.Putting.{putBits-none, putBits-append, put-then}
-
--- ---- values
-
--- the last c bits of the two's complement in eight bits are those of the two's complement in c bits
-bits-eight : (c : ℕ) (z : ℤ) → c ≤ 8 → fits c z ≡ true → bits c (twos 8 z) ≡ bits c (twos c z)
-unfolding twos fits
-bits-eight c (pos n) h f = refl
-bits-eight c (negsuc n) h f =
-    let s : 8 - c + c ≡ 8 = omega arith in
-    let g : 256 ≡ suc (2 ^ (8 - c) - 1) * 2 ^ c = rw (suc-ones (8 - c), ← (pow-add 2 (8 - c) c), s) in
-    let m : n < 2 ^ (c - 1) = ltb-true n (2 ^ (c - 1)) f in
-    let l : suc n ≤ 2 ^ c = lt-of-lt-of-le m (pow-mono {i = c - 1} {j = c} (omega arith)) in
-    let e : 256 - suc n ≡ (2 ^ (8 - c) - 1) * 2 ^ c + (2 ^ c - suc n) = omega (arith, g) in
-    ap (bits c) e ∙ bits-above c (2 ^ (8 - c) - 1) (2 ^ c - suc n)
-
--- what is put, where values from i on are left to put at bit p
-unfoldable pub putting : ℕ → List ℤ → List ℕ → ℕ → ℕ → List ℕ
-putting c zs out i p = putBits out p (valueBits c (drop i zs))
-
-pub putting-done : (c : ℕ) (zs : List ℤ) (out : List ℕ) (i p : ℕ) → length zs ≤ i → putting c zs out i p ≡ out
-unfolding putting valueBits
-putting-done c zs out i p h = rw (drop-of-length-le zs h, valueBits) (putBits-none out p)
-
-pub putting-all : (c : ℕ) (zs : List ℤ) (out : List ℕ) (p : ℕ) → putting c zs out 0 p ≡ putBits out p (valueBits c zs)
-unfolding putting
-putting-all c zs out p = refl
-
--- one value more; it comes to `code` through its bits
-pub putting-more : (c : ℕ) (zs : List ℤ) (out : List ℕ) (i p : ℕ) → c ≤ 8 → allFit c zs ≡ true → i < length zs → SFits w8 (getD zs i (pos 0))
-    → (out₂ : List ℕ) (p₂ v : ℕ) → v ≡ twos 8 (toZ w8 (ofZ w8 (getD zs i (pos 0)))) → p₂ ≡ p + c → out₂ ≡ putBits out p (bits c v)
-    → putting c zs out₂ (i + 1) p₂ ≡ putting c zs out i p
-unfolding putting
-putting-more c zs out i p few f l r out₂ p₂ v ev ep eo =
-    let z = getD zs i (pos 0) in
-    rw (
-      eo,
-      ep,
-      ev,
-      toZ-ofZ w8 z r,
-      add-one i,
-      drop-cons zs i (pos 0) l,
-      valueBits-cons c z (drop (suc i) zs),
-      putBits-append out p (bits c (twos c z)) (valueBits c (drop (suc i) zs)),
-      length-bits c (twos c z),
-      bits-eight c z few (fit-at c zs i f l),
-    )
 
 -- ---- one ask
 
@@ -74,11 +23,11 @@ numberBits-is : (ns : List ℕ) → bits 7 (getD ns 0 0) ++ (bits 7 (getD ns 1 0
 unfolding numberBits
 numberBits-is ns = refl
 
-pub ask-put : (o₀ o₁ o₂ : List ℕ) (at p c : ℕ) (ns : List ℕ) (qs : List ℤ) (a b k t : ℕ)
+pub ask-put : (o₀ : List ℕ) {o₁ o₂ : List ℕ} (at : ℕ) {p : ℕ} (c : ℕ) (ns : List ℕ) (qs : List ℤ) {a b k t : ℕ}
     → a ≡ getD ns 0 0 → b ≡ getD ns 1 0 → k ≡ getD ns 2 0 → t ≡ getD ns 3 0 → p ≡ at + 36
     → o₁ ≡ putBits o₀ at (bits 7 a ++ (bits 7 (b - 1) ++ (bits 7 (k - 1) ++ bits 15 t))) → o₂ ≡ putBits o₁ p (valueBits c qs)
     → o₂ ≡ putBits o₀ at (numberBits ns ++ valueBits c qs)
-ask-put o₀ o₁ o₂ at p c ns qs a b k t ea eb ek et ep f g =
+ask-put o₀ {o₁} {o₂} at {p} c ns qs {a} {b} {k} {t} ea eb ek et ep f g =
     put-then o₀ o₁ o₂ at p (numberBits ns) (valueBits c qs) (rw length-numberBits ep) (f ∙ same) g
   where
     same : putBits o₀ at (bits 7 a ++ (bits 7 (b - 1) ++ (bits 7 (k - 1) ++ bits 15 t))) ≡ putBits o₀ at (numberBits ns)
@@ -87,19 +36,11 @@ ask-put o₀ o₁ o₂ at p c ns qs a b k t ea eb ek et ep f g =
 -- an ask is its first four numbers
 four-refusal : (l : List ℕ) → 4 ≤ length l → askRefusal (take 4 l) ≡ askRefusal l
 unfolding askRefusal
-four-refusal [] h = absurd (omega arith)
-four-refusal (a ∷ []) h = absurd (omega arith)
-four-refusal (a ∷ b ∷ []) h = absurd (omega arith)
-four-refusal (a ∷ b ∷ c ∷ []) h = absurd (omega arith)
-four-refusal (a ∷ b ∷ c ∷ d ∷ l) h = refl
+four-refusal l h = ap askRefusal (four l h)
 
 four-bits : (l : List ℕ) → 4 ≤ length l → numberBits (take 4 l) ≡ numberBits l
 unfolding numberBits
-four-bits [] h = absurd (omega arith)
-four-bits (a ∷ []) h = absurd (omega arith)
-four-bits (a ∷ b ∷ []) h = absurd (omega arith)
-four-bits (a ∷ b ∷ c ∷ []) h = absurd (omega arith)
-four-bits (a ∷ b ∷ c ∷ d ∷ l) h = refl
+four-bits l h = ap numberBits (four l h)
 
 -- one ask, and the rest of them
 ask-step : (out : List ℕ) (p d c a : ℕ) (ns : List ℕ) (qs : List ℤ) → 4 ≤ length ns → d ≤ length qs
@@ -131,7 +72,8 @@ turn-start d c asks ns qs at out f =
     let z : asks - 0 ≡ asks = omega arith in
     record { few = omega arith; used = refl; asked = omega arith; place = omega arith; as-long = refl; rest-fit = rw z f; gives = rw z }
 
-module _ {d c asks : ℕ} {ns : List ℕ} {qs : List ℤ} {at : ℕ} {out₀ : List ℕ} {i j q p : ℕ} {out : List ℕ} (t : Turn d c asks ns qs at out₀ i j q p out) where
+module _ {d c asks : ℕ} {ns : List ℕ} {qs : List ℤ} {at : ℕ} {out₀ : List ℕ} {i j q p : ℕ} {out : List ℕ}
+    (t : Turn d c asks ns qs at out₀ i j q p out) where
   asks-zero : putBits out p (askBits d c 0 (drop j ns) (drop q qs)) ≡ out
   unfolding askBits
   asks-zero = putBits-none out p
@@ -197,10 +139,10 @@ module _ {d c asks : ℕ} {ns : List ℕ} {qs : List ℤ} {at : ℕ} {out₀ : L
         let m : (i + 1) * (36 + d * c) ≤ asks * (36 + d * c) = mul-le-mul-right (36 + d * c) (let h : i + 1 ≤ asks = omega arith in h) in
         omega (arith, t .place, turn-d)
 
-    pub turn-again : (out₂ : List ℕ) (p₂ : ℕ) → p₂ ≡ p + 36 + length qq * c → length out₂ ≡ length out
+    pub turn-again : {out₂ : List ℕ} {p₂ : ℕ} → p₂ ≡ p + 36 + length qq * c → length out₂ ≡ length out
         → out₂ ≡ putBits out p (numberBits nn ++ valueBits c qq)
         → Turn d c asks ns qs at out₀ (i + 1) (j + 4) (q + d) p₂ out₂
-    turn-again out₂ p₂ ep ew eo =
+    turn-again {p₂ = p₂} ep ew eo =
         let e : p₂ ≡ p + 36 + d * c = ep ∙ ap (λ (x : ℕ). p + 36 + x) turn-d in
         record {
           few = omega arith;

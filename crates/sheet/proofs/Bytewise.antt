@@ -2,14 +2,16 @@
 use mathlib.Core.Path.{_≡_, refl, sym, ap, _∙_}
 use mathlib.Core.Bool.{Bool}
 use mathlib.Core.List.{List, [], _∷_, _++_, append-assoc, append-nil}
+use mathlib.Core.Logic.{⊎-elim}
 use Prim.Native.Nat.{ℕ, suc, _+_, _-_, _*_, _/_, _%_, _^_, _≤_, _<_}
 use native.Mathlib.Nat.{mod-one, mod-eq-of-lt}
 use native.Mathlib.Omega.{arith}
-use lib.ListN.{length, take, drop, getD, length-append, take-append-drop, length-drop}
+use lib.ListN.{length, take, drop, getD, length-append, take-append-drop, length-drop, drop-of-length-le}
 use lib.Seq.{drop-cons, take-all, set-at, getD-at, length-take-le}
 use lib.Pow.{high, pow-pos}
 use Rattle.rules.specs.Bits.{bit, number, zeros, packed, byteCount, filled, bytesOf}
-use Rattle.laws.proofs.Bits.{by-lt, number-append, number-zeros, number-lt, length-zeros}
+use Rattle.laws.proofs.Tests.{le-or-lt}
+use Rattle.laws.proofs.Bits.{number-append, number-zeros, number-lt, length-zeros}
 use Rattle.laws.proofs.Packing.{length-packed, packed-append}
 use Rattle.sheet.specs.Put.{putIn, putBit, putBits}
 
@@ -41,10 +43,6 @@ snoc-number : (r : List Bool) (b : Bool) → number (r ++ (b ∷ [])) ≡ number
 unfolding number
 snoc-number r b = number-append r (b ∷ []) ∙ omega arith
 
-none : (l : List Bool) → length l ≡ 0 → l ≡ []
-none [] e = refl
-none (x ∷ l) e = absurd (omega arith)
-
 -- the byte that the next bit goes into, once whole bytes A and m more bits r are put: what stands in it, and behind it
 module _ (j : ℕ) (A r : List Bool) (out : List ℕ) (e : length A ≡ j * 8) (l : length r < 8) (room : j < length out) where
   abbrev State : Type 0
@@ -53,11 +51,11 @@ module _ (j : ℕ) (A r : List Bool) (out : List ℕ) (e : length A ≡ j * 8) (
       × (bytesOf (A ++ r) ++ drop (byteCount (length (A ++ r))) out ≡ packed j A ++ (o ∷ drop (suc j) out))
       × (o / 2 ^ (8 - length r) % 2 ^ length r ≡ number r)
 
-  state-none : (length r ≡ 0) → State
+  state-none : length r ≤ 0 → State
   unfolding byteCount number
   state-none z =
       let a : (j * 8 + 7) / 8 ≡ j = omega arith in
-      rw (none r z, append-nil A) (
+      rw (drop-of-length-le r {i = 0} z, append-nil A) (
         getD out j 0,
         rw (bytesOf-whole j A e, e, a, drop-cons out j 0 room),
         mod-one (getD out j 0 / 2 ^ 8),
@@ -78,7 +76,7 @@ module _ (j : ℕ) (A r : List Bool) (out : List ℕ) (e : length A ≡ j * 8) (
       )
 
   state : State
-  state = by-lt 0 (length r) state-some (λ (h : length r ≤ 0). state-none (omega arith))
+  state = ⊎-elim state-none state-some (le-or-lt (length r) 0)
 
   -- the next bit
   next : (b : Bool) → putBit (bytesOf (A ++ r) ++ drop (byteCount (length (A ++ r))) out) (length (A ++ r)) (bit b)
@@ -100,7 +98,8 @@ module _ (j : ℕ) (A r : List Bool) (out : List ℕ) (e : length A ≡ j * 8) (
       (set-at pre (s .0) D _ j (length-packed j A)
       ∙ ap (λ (x : ℕ). pre ++ (x ∷ D)) v
       ∙ sym (append-assoc pre _ D)
-      ∙ ap (λ (x : List ℕ). x ++ D) (sym (bytesOf-last j A (r ++ (b ∷ [])) e (rw z (omega arith)) (rw z (omega arith))) ∙ ap bytesOf (sym (append-assoc A r (b ∷ [])))))
+      ∙ ap (λ (x : List ℕ). x ++ D)
+      (sym (bytesOf-last j A (r ++ (b ∷ [])) e (rw z (omega arith)) (rw z (omega arith))) ∙ ap bytesOf (sym (append-assoc A r (b ∷ [])))))
 
 -- any bits so far
 pub put-next : (bs : List Bool) (b : Bool) (out : List ℕ) → length bs / 8 < length out

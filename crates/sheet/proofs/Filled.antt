@@ -29,8 +29,8 @@ reading-none ys c buffer i p h =
     let e : length buffer - i ≡ 0 = omega arith in
     rw (e, values) (append-nil (take i buffer) ∙ take-all i buffer h)
 
--- one value more
-module _ (ys : List ℕ) (c : ℕ) (buffer : List ℤ) (i p : ℕ) (l : i < length buffer) (few : c ≤ 8) (u : ℕ) (is : u ≡ fieldAt ys p (min c 16)) where
+-- one value more: u is the field at p
+module _ (ys : List ℕ) (c p : ℕ) (few : c ≤ 8) {u : ℕ} (is : u ≡ fieldAt ys p (min c 16)) where
   read-is : u ≡ fieldAt ys p c
   read-is = let e : min c 16 ≡ c = omega arith in is ∙ ap (fieldAt ys p) e
 
@@ -42,9 +42,10 @@ module _ (ys : List ℕ) (c : ℕ) (buffer : List ℤ) (i p : ℕ) (l : i < leng
   values-suc m =
       ap (λ (r : List Bool). signed c (number (take c (drop p (unpacked ys)))) ∷ values c m r) (drop-drop c p (unpacked ys))
 
-  pub reading-more : (v : ℤ) → v ≡ signed c u → SFits w8 v → reading ys c (set buffer i (toZ w8 (ofZ w8 v))) (i + 1) (p + c) ≡ reading ys c buffer i p
+  pub reading-more : (buffer : List ℤ) (i : ℕ) → i < length buffer → {v : ℤ} → v ≡ signed c u → SFits w8 v
+      → reading ys c (set buffer i (toZ w8 (ofZ w8 v))) (i + 1) (p + c) ≡ reading ys c buffer i p
   unfolding reading
-  reading-more v e f =
+  reading-more buffer i l {v} e f =
       let m = length buffer - suc i in
       let s : length buffer - i ≡ suc m = omega arith in
       let a : i + 1 ≡ suc i = omega arith in

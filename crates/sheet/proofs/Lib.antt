@@ -4,8 +4,9 @@ pub mod Signs
 pub mod Reading
 pub mod Filled
 pub mod Entered
-pub mod Putting
 pub mod Refusing
+pub mod Putting
+pub mod PuttingValues
 pub mod Asking
 pub mod Bytewise
 pub mod Whole

@@ -15,10 +15,6 @@ use Rattle.sheet.specs.Put.{putIn, putBit, putBits}
 
 -- ---- their equations
 
-pub length-putBit : (out : List ℕ) (at b : ℕ) → length (putBit out at b) ≡ length out
-unfolding putBit
-length-putBit out at b = length-set out (at / 8) (putIn (getD out (at / 8) 0) (at % 8) b)
-
 pub putBits-none : (out : List ℕ) (at : ℕ) → putBits out at [] ≡ out
 unfolding putBits
 putBits-none out at = refl
@@ -26,11 +22,6 @@ putBits-none out at = refl
 pub putBits-cons : (out : List ℕ) (at : ℕ) (b : Bool) (bs : List Bool) → putBits out at (b ∷ bs) ≡ putBits (putBit out at (bit b)) (at + 1) bs
 unfolding putBits
 putBits-cons out at b bs = refl
-
-pub length-putBits : (out : List ℕ) (at : ℕ) (bs : List Bool) → length (putBits out at bs) ≡ length out
-unfolding putBits
-length-putBits out at [] = refl
-length-putBits out at (b ∷ bs) = length-putBits (putBit out at (bit b)) (at + 1) bs ∙ length-putBit out at (bit b)
 
 pub putBits-append : (out : List ℕ) (at : ℕ) (xs ys : List Bool) → putBits out at (xs ++ ys) ≡ putBits (putBits out at xs) (at + length xs) ys
 unfolding putBits
@@ -45,9 +36,11 @@ pub put-then : (o₀ o₁ o₂ : List ℕ) (at p : ℕ) (u v : List Bool) → p 
 put-then o₀ o₁ o₂ at p u v e f g = g ∙ rw (e, f) (sym (putBits-append o₀ at u v))
 
 -- a field, and then more bits
-pub put-after : (o₀ o₁ o₂ : List ℕ) (at p w v : ℕ) (u : List Bool) → p ≡ at + w → o₁ ≡ putBits o₀ at (bits w v) → o₂ ≡ putBits o₁ p u
+pub put-after : (o₀ : List ℕ) {o₁ o₂ : List ℕ} (at : ℕ) {p : ℕ} (w v : ℕ) (u : List Bool)
+    → p ≡ at + w → o₁ ≡ putBits o₀ at (bits w v) → o₂ ≡ putBits o₁ p u
     → o₂ ≡ putBits o₀ at (bits w v ++ u)
-put-after o₀ o₁ o₂ at p w v u e f g = put-then o₀ o₁ o₂ at p (bits w v) u (e ∙ ap (λ (n : ℕ). at + n) (sym (length-bits w v))) f g
+put-after o₀ {o₁} {o₂} at {p} w v u e f g =
+    put-then o₀ o₁ o₂ at p (bits w v) u (e ∙ ap (λ (n : ℕ). at + n) (sym (length-bits w v))) f g
 
 -- ---- several bits into one byte
 

@@ -1,10 +1,13 @@
 -- The refusals of reading, test by test, over what the code has in hand. Assumes nothing.
 use mathlib.Core.Path.{_≡_, sym, ap, _∙_}
+use mathlib.Core.Logic.{_≢_}
+use mathlib.Core.Bool.{false}
 use mathlib.Core.List.{List}
 use Prim.Native.Nat.{ℕ, _+_, _-_, _*_, _/_, _≤_, _<_, min}
 use native.Mathlib.Nat.{mul-le-mul}
 use native.Mathlib.Omega.{arith}
 use lib.ListN.{length}
+use lib.Dec.{leb}
 use borrow.Author.Tests.{lt-ltb, le-ltb, le-leb, lt-leb, eq-eqb, ne-eqb}
 use Rattle.rules.specs.Bits.{byteCount}
 use Rattle.rules.specs.Sheet.{bitCount, sheetLength, points, coords, width, askCount, required, filling, fieldAt}
@@ -101,7 +104,8 @@ module _ {ys : List ℕ} {h : Head} {bits : ℕ} (k : Counted ys h bits) where
   length-over l = too-long ys (k .header) few-asks (omega (arith, bytes-are))
 
   -- the length is as required: the filling is the field of what is left of the last byte
-  module _ (less : (bits + 7) / 8 ≤ length ys) (more : length ys ≤ (bits + 7) / 8) {rest : ℕ} (is-rest : rest ≡ fieldAt ys bits (min (length ys * 8 - bits) 16)) where
+  module _ (less : (bits + 7) / 8 ≤ length ys) (more : length ys ≤ (bits + 7) / 8) {rest : ℕ}
+      (is-rest : rest ≡ fieldAt ys bits (min (length ys * 8 - bits) 16)) where
     rest-is : rest ≡ filling ys
     unfolding filling
     rest-is =
@@ -118,50 +122,46 @@ module _ {ys : List ℕ} {h : Head} {bits : ℕ} (k : Counted ys h bits) where
 
 -- ---- then the vectors, or one ask
 
-module _ (ys : List ℕ) (r : ℕ) (is : r ≡ sheetRefusal ys) where
-  no-sheet : (r ≡ 0 → ⊥) → sheetRefusal ys ≡ 0 → ⊥
-  no-sheet d e = d (is ∙ e)
-
-  pub vectors-none : (r ≡ 0 → ⊥) → (room : ℕ) → r ≡ vectorsRefusal ys room
+module _ (ys : List ℕ) {r : ℕ} (is : r ≡ sheetRefusal ys) (some : r ≢ 0) where
+  pub vectors-none : (room : ℕ) → r ≡ vectorsRefusal ys room
   unfolding vectorsRefusal
-  vectors-none d room = is ∙ sym (else-some (no-sheet d) _)
+  vectors-none room = is ∙ sym (else-some (λ z. some (is ∙ z)) _)
 
-  pub ask-none : (r ≡ 0 → ⊥) → (number room : ℕ) → r ≡ oneAskRefusal ys number room
+  pub ask-none : (number room : ℕ) → r ≡ oneAskRefusal ys number room
   unfolding oneAskRefusal
-  ask-none d number room = is ∙ sym (else-some (no-sheet d) _)
+  ask-none number room = is ∙ sym (else-some (λ z. some (is ∙ z)) _)
 
-  module _ (ok : r ≡ 0) (h : Head) (head : h ≡ headOf ys) where
-    ok-sheet : sheetRefusal ys ≡ 0
-    ok-sheet = sym is ∙ ok
+-- the sheet is not refused, and its header was read
+pub record HeaderRead (ys : List ℕ) (h : Head) : Type 0 where
+  pub free : sheetRefusal ys ≡ 0
+  pub head : h ≡ headOf ys
 
-    product-is : h .n * h .d ≡ points ys * coords ys
-    product-is = rw (n-is ys h head, d-is ys h head)
+module _ {ys : List ℕ} {h : Head} (k : HeaderRead ys h) (room : ℕ) where
+  product-is : h .n * h .d ≡ points ys * coords ys
+  product-is = rw (n-is ys h (k .head), d-is ys h (k .head))
 
-    pub vectors-other : (room : ℕ) → (room ≡ h .n * h .d → ⊥) → 3 ≡ vectorsRefusal ys room
-    unfolding vectorsRefusal
-    vectors-other room d =
-        sym (else-none ok-sheet _ ∙ rw (ne-eqb room (points ys * coords ys) (λ e. d (e ∙ sym product-is))))
+  pub vectors-other : room ≢ h .n * h .d → 3 ≡ vectorsRefusal ys room
+  unfolding vectorsRefusal
+  vectors-other d = sym (else-none (k .free) _ ∙ rw (ne-eqb room (points ys * coords ys) (λ e. d (e ∙ sym product-is))))
 
-    pub vectors-fit : (room : ℕ) → room ≡ h .n * h .d → 0 ≡ vectorsRefusal ys room
-    unfolding vectorsRefusal
-    vectors-fit room e = sym (else-none ok-sheet _ ∙ rw (eq-eqb room (points ys * coords ys) (e ∙ product-is)))
+  pub vectors-fit : room ≡ h .n * h .d → 0 ≡ vectorsRefusal ys room
+  unfolding vectorsRefusal
+  vectors-fit e = sym (else-none (k .free) _ ∙ rw (eq-eqb room (points ys * coords ys) (e ∙ product-is)))
 
-    module _ (number wide : ℕ) (same : wide ≡ number) (room : ℕ) where
-      pub ask-over : h .asks ≤ wide → 17 ≡ oneAskRefusal ys number room
+  -- the ask's number is widened before it is tested
+  module _ {wide number : ℕ} (same : wide ≡ number) where
+    pub ask-over : h .asks ≤ wide → 17 ≡ oneAskRefusal ys number room
+    unfolding oneAskRefusal
+    ask-over l = sym (else-none (k .free) _ ∙ rw (le-leb (askCount ys) number (omega (arith, asks-is ys h (k .head)))))
+
+    module _ (l : wide < h .asks) where
+      there : leb (askCount ys) number ≡ false
+      there = lt-leb (askCount ys) number (omega (arith, asks-is ys h (k .head)))
+
+      pub ask-other : room ≢ h .d → 5 ≡ oneAskRefusal ys number room
       unfolding oneAskRefusal
-      ask-over l =
-          sym (else-none ok-sheet _ ∙ rw (le-leb (askCount ys) number (omega (arith, asks-is ys h head))))
+      ask-other d = sym (else-none (k .free) _ ∙ rw (there, ne-eqb room (coords ys) (λ e. d (e ∙ sym (d-is ys h (k .head))))))
 
-      pub ask-other : wide < h .asks → (room ≡ h .d → ⊥) → 5 ≡ oneAskRefusal ys number room
+      pub ask-fits : room ≡ h .d → 0 ≡ oneAskRefusal ys number room
       unfolding oneAskRefusal
-      ask-other l d =
-          sym
-          (else-none ok-sheet _
-          ∙ rw (lt-leb (askCount ys) number (omega (arith, asks-is ys h head)), ne-eqb room (coords ys) (λ e. d (e ∙ sym (d-is ys h head)))))
-
-      pub ask-fits : wide < h .asks → room ≡ h .d → 0 ≡ oneAskRefusal ys number room
-      unfolding oneAskRefusal
-      ask-fits l e =
-          sym
-          (else-none ok-sheet _
-          ∙ rw (lt-leb (askCount ys) number (omega (arith, asks-is ys h head)), eq-eqb room (coords ys) (e ∙ d-is ys h head)))
+      ask-fits e = sym (else-none (k .free) _ ∙ rw (there, eq-eqb room (coords ys) (e ∙ d-is ys h (k .head))))

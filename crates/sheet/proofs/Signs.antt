@@ -16,7 +16,7 @@ use mir.Syntax.{w8, w32}
 use mir.Val.{Fits, SFits, toZ, ofZ}
 use mir.ValLaws.{toZ-ofZ}
 use Rattle.rules.specs.Bits.{signed, signedBy, twos, fits, allFit}
-use Rattle.laws.proofs.Bits.{half}
+use Rattle.laws.proofs.Values.{half}
 
 -- ---- a magnitude below 128 with either sign
 

@@ -1,10 +1,10 @@
 -- Reading a written sheet gives back its contents, and writing what was read gives back its bytes: of what the entries answer and leave.
 -- Assumes nothing.
-use mathlib.Core.Path.{_≡_, refl, sym, ap, ap₂, _∙_, subst}
+use mathlib.Core.Path.{_≡_, sym, ap, ap₂, _∙_, subst}
 use mathlib.Core.List.{List, [], _∷_, _++_}
-use Prim.Native.Nat.{ℕ, zero, suc, _+_, _-_, _*_, _≤_, _<_}
+use Prim.Native.Nat.{ℕ, zero, suc, _+_, _*_, _≤_, _<_}
 use native.Mathlib.Omega.{arith}
-use lib.ListN.{length, take, drop, replicate, length-replicate, length-drop, take-append-drop}
+use lib.ListN.{length, take, drop, replicate, length-replicate, length-drop, take-append-drop, drop-of-length-le}
 use lib.Seq.{take-append-seam, take-all, drop-drop, length-take-le}
 use lib.IntN.{ℤ, pos}
 use borrow.Author.Tests.{lt-leb, eq-eqb}
@@ -14,9 +14,10 @@ use Rattle.rules.specs.Outcome.{Outcome, gives, outcome, over}
 use Rattle.rules.specs.Refusals.{sheetRefusal, vectorsRefusal, oneAskRefusal}
 use Rattle.rules.specs.Entries.{Header, headerAnswer, vectorsAfter, numbersOf, askAnswer, queryAfter, writeRefused, writeAnswer, outputAfter}
 use Rattle.laws.proofs.Refusals.{else-none, outcome-gives, outcome-none, outcome-value, after-new}
-use Rattle.laws.proofs.Asks.{four}
+use Rattle.laws.proofs.Numbers.{four}
 use Rattle.laws.proofs.Writable.{Writable, writable}
-use Rattle.laws.proofs.RoundTrip.{read-back, sheet-read, write-back, read-writable, write-again}
+use Rattle.laws.proofs.ReadBack.{read-back, sheet-read}
+use Rattle.laws.proofs.WriteBack.{write-back, read-writable, write-again}
 use Rattle.laws.proofs.OneAsk.{one-numbers, one-query}
 use Rattle.sheet.specs.AsRead.{AsRead, numbersAt}
 
@@ -35,6 +36,11 @@ module _ (ys : List ℕ) (ok : sheetRefusal ys ≡ 0) where
   unfolding oneAskRefusal
   no-ask-refusal i room l e = else-none ok _ ∙ rw (lt-leb (askCount ys) i l, eq-eqb room (coords ys) e)
 
+  answers : (i room : ℕ) → i < askCount ys → room ≡ coords ys
+      → outcome (oneAskRefusal ys i room) (numbersOf (askNumbers ys i)) ≡ gives (numbersOf (numbersAt (contentsOf ys) i))
+  answers i room l e =
+      outcome-gives (no-ask-refusal i room l e) (numbersOf (askNumbers ys i)) ∙ ap (λ (ns : List ℕ). gives (numbersOf ns)) (one-numbers ys i l)
+
   -- the contents that a sheet says are what the readers give of it
   pub reads-contents : AsRead ys (contentsOf ys)
   unfolding contentsOf headerAnswer vectorsAfter askAnswer queryAfter
@@ -43,7 +49,7 @@ module _ (ys : List ℕ) (ok : sheetRefusal ys ≡ 0) where
         header = outcome-gives ok _;
         vectors-given = λ buffer e. no-vectors-refusal (length buffer) e;
         vectors = λ buffer e. after-new (no-vectors-refusal (length buffer) e) buffer (vectorsOf ys);
-        numbers = λ i l buffer e. outcome-gives (no-ask-refusal i (length buffer) l e) (numbersOf (askNumbers ys i)) ∙ ap (λ (ns : List ℕ). gives (numbersOf ns)) (one-numbers ys i l);
+        numbers = λ i l buffer e. answers i (length buffer) l e;
         queries = λ i l buffer e. after-new (no-ask-refusal i (length buffer) l e) buffer (askQuery ys i) ∙ one-query ys i l;
         numbers-are = read-writable ys ok .numbers-are;
         queries-are = read-writable ys ok .queries-are;
@@ -72,14 +78,9 @@ module _ (k : Contents) (output : List ℕ) (l : ℕ) (wrote : writeAnswer k out
 
 -- ---- lists that agree part by part
 
-empty : {A : Type 0} (xs zs : List A) → length xs ≡ 0 → length zs ≡ 0 → xs ≡ zs
-empty [] [] e f = refl
-empty [] (z ∷ zs) e f = absurd (omega arith)
-empty (x ∷ xs) zs e f = absurd (omega arith)
-
 module _ {A : Type 0} (m : ℕ) where
   parts : (a : ℕ) (xs zs : List A) → length xs ≡ a * m → length zs ≡ a * m → ((i : ℕ) → i < a → take m (drop (i * m) xs) ≡ take m (drop (i * m) zs)) → xs ≡ zs
-  parts zero xs zs e f h = empty xs zs (omega arith) (omega arith)
+  parts zero xs zs e f h = drop-of-length-le xs {i = 0} (omega arith) ∙ sym (drop-of-length-le zs {i = 0} (omega arith))
   parts (suc a) xs zs e f h =
       let z : 0 * m ≡ 0 = omega arith in
       let first : take m xs ≡ take m zs = rw z at (h 0 (omega arith)) in
@@ -108,7 +109,8 @@ module _ (ys : List ℕ) (small : Bytes ys) (k : Contents) (was : AsRead ys k) w
   unfolding headerAnswer
   read = outcome-none (sheetRefusal ys) _ _ (was .header)
 
-  header-is : _≡_ {A = Header} (record { n = points ys; d = coords ys; c = width ys; asks = askCount ys }) (record { n = k .n; d = k .d; c = k .c; asks = k .asks })
+  header-is : _≡_ {A = Header} (record { n = points ys; d = coords ys; c = width ys; asks = askCount ys })
+      (record { n = k .n; d = k .d; c = k .c; asks = k .asks })
   unfolding headerAnswer
   header-is = outcome-value (sheetRefusal ys) _ _ (was .header)
 
@@ -148,7 +150,8 @@ module _ (ys : List ℕ) (small : Bytes ys) (k : Contents) (was : AsRead ys k) w
       let e : length (contentsOf ys .numbers) ≡ k .asks * 4 = said .numbers-are ∙ rw asks-is (omega arith) in
       parts 4 (k .asks) (contentsOf ys .numbers) (k .numbers) e (was .numbers-are ∙ omega arith) (λ i l. one i l e)
     where
-      one : (i : ℕ) → i < k .asks → length (contentsOf ys .numbers) ≡ k .asks * 4 → take 4 (drop (i * 4) (contentsOf ys .numbers)) ≡ take 4 (drop (i * 4) (k .numbers))
+      one : (i : ℕ) → i < k .asks → length (contentsOf ys .numbers) ≡ k .asks * 4
+          → take 4 (drop (i * 4) (contentsOf ys .numbers)) ≡ take 4 (drop (i * 4) (k .numbers))
       one i l e =
           let f : i * 4 ≡ 4 * i = omega arith in
           rw f

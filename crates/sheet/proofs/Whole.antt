@@ -7,10 +7,10 @@ use lib.ListN.{length, drop}
 use Rattle.rules.specs.Bits.{bits, valueBits, byteCount}
 use Rattle.rules.specs.Sheet.{Contents, headBits, askBits, sheetBits, sheet, bitCount, sheetLength}
 use Rattle.rules.specs.Outcome.{over}
-use Rattle.laws.proofs.Bits.{length-valueBits}
+use Rattle.laws.proofs.Values.{length-valueBits}
 use Rattle.laws.proofs.Packing.{length-bytesOf}
 use Rattle.laws.proofs.Writable.{Writable, few-bits}
-use Rattle.laws.proofs.RoundTrip.{length-headBits, length-sheetBits}
+use Rattle.laws.proofs.ReadBack.{length-headBits, length-sheetBits}
 use Rattle.sheet.specs.Put.{putBits}
 use Rattle.sheet.proofs.Putting.{put-then}
 use Rattle.sheet.proofs.Bytewise.{put-all}
@@ -37,13 +37,13 @@ module _ (k : Contents) (w : Writable k) (out : List ℕ) (room : sheetLength (k
   pub small : 24 + (vectors-bits + asks-bits) < 2 ^ 20
   small = omega (arith, count-is, few-bits (k .n) (k .d) (k .c) (k .asks) (w .few-points) (w .few-coordinates) (w .few-width) (w .few-asks))
 
-  pub done : (o₁ o₂ o₃ : List ℕ) (p q r : ℕ)
+  pub done : {o₁ o₂ o₃ : List ℕ} {p q r : ℕ}
       → p ≡ 24 → o₁ ≡ putBits out 0 (bits 7 (k .n - 1) ++ (bits 6 (k .d - 1) ++ (bits 3 (k .c - 1) ++ bits 8 (k .asks))))
       → q ≡ p + vectors-bits → o₂ ≡ putBits o₁ p (valueBits (k .c) (k .vectors))
       → r ≡ q + asks-bits → o₃ ≡ putBits o₂ q (askBits (k .d) (k .c) (k .asks) (k .numbers) (k .queries))
       → ((r + 7) / 8 ≡ length (sheet k)) × (o₃ ≡ over (sheet k) out)
   unfolding sheet sheetBits headBits byteCount sheetLength over
-  done o₁ o₂ o₃ p q r ep e₁ eq e₂ er e₃ =
+  done {o₁} {o₂} {o₃} {p} {q} {r} ep e₁ eq e₂ er e₃ =
       let H = headBits (k .n) (k .d) (k .c) (k .asks) in
       let Vs = valueBits (k .c) (k .vectors) in
       let As = askBits (k .d) (k .c) (k .asks) (k .numbers) (k .queries) in

@@ -9,16 +9,7 @@ ghost use Prim.Native.Nat.{_+_, _*_, _≤_, _<_};
 ghost use lib.Dec.{ltb};
 ghost use lib.ListN.{length, drop};
 ghost use Rattle.rules.specs.Outcome.{firstOf};
-ghost use Rattle.rules.specs.Refusals.{outside, differ, refuse1, refuse2, refuse3, refuse5, refuse11, refuse12, askRefusal, asksRefusal, writerRefusal};
-
-fn is_outside(low: usize, high: usize, x: usize) -> bool
-    ensures { λ r. ⌜ r ≡ outside low high x ⌝ }
-{
-    if x < low {
-        return true;
-    }
-    high < x
-}
+ghost use Rattle.rules.specs.Refusals.{differ, refuse1, refuse2, refuse3, refuse5, refuse11, refuse12, askRefusal, asksRefusal, writerRefusal};
 
 fn are_wrong(asks: usize, numbers: usize) -> bool
     ensures { λ r. ⌜ r ≡ (ltb 127 asks || differ numbers (4 * asks)) ⌝ }
@@ -41,13 +32,13 @@ fn shape_refusal(
 ) -> u8
     ensures { λ r. ⌜ r ≡ firstOf (refuse1 n ∷ refuse2 d ∷ refuse11 c ∷ refuse12 asks numbers ∷ refuse3 n d vectors ∷ refuse5 (asks * d) queries ∷ []) ⌝ }
 {
-    if is_outside(1, 128, n) {
+    if space::is_outside(1, 128, n) {
         return 1;
     }
-    if is_outside(1, 64, d) {
+    if space::is_outside(1, 64, d) {
         return 2;
     }
-    if is_outside(1, 8, c) {
+    if space::is_outside(1, 8, c) {
         return 11;
     }
     if are_wrong(asks, numbers) {
@@ -69,10 +60,10 @@ fn ask_refusal(start: u16, width: u16, k: u16, threshold: u16) -> u8
     if 128 <= start {
         return 6;
     }
-    if is_outside(1, 128, wide(width)) {
+    if space::is_outside(1, 128, wide(width)) {
         return 7;
     }
-    if is_outside(1, 128, wide(k)) {
+    if space::is_outside(1, 128, wide(k)) {
         return 8;
     }
     if 32767 < threshold {

@@ -13,7 +13,8 @@ use Rattle.sheet.proofs.ask.Tie as tie
 abbrev start : tie.After-wide → tie.Start
 start c = c .before .before .before .before .before
 
-known : (c : tie.After-wide) → OneAsk (start c .args .sheet .now) (c .before .head .result) (start c .args .number) (c .wide .result) (length (start c .args .query .now))
+known : (c : tie.After-wide)
+    → OneAsk (start c .args .sheet .now) (c .before .head .result) (start c .args .number) (c .wide .result) (length (start c .args .query .now))
 known c =
     record {
       head = c .before .head .ensures;
@@ -78,14 +79,16 @@ same-length c = search needs
 returns-2 : tie.Need-returns-2
 unfolding askAnswer queryAfter
 returns-2 c =
-    let values = c .before .before .before .before .before in
+    let fields = c .before .before .before in
+    let values = fields .before .before in
     let count = values .before .before in
     let place = count .bit-count .ensures .0 in
     let wide = count .before in
     let refusal = wide .before .before .before .one-ask-refusal .ensures in
     let none = wide .before .before .if1 .left in (
       ap {A = Numbers} gives
-          (numbers-are (known wide) place (c .before .before .before .field-from .ensures) (c .before .before .field-from2 .ensures) (c .before .field-from3 .ensures) (c .field-from4 .ensures))
+          (numbers-are (known wide) place (fields .field-from .ensures) (c .before .before .field-from2 .ensures)
+          (c .before .field-from3 .ensures) (c .field-from4 .ensures))
           ∙ answer-given refusal none _,
       values .read-values .ensures ∙ query-is (known wide) place ∙ left-new refusal none _ _,
     )

@@ -20,7 +20,10 @@ head-requires c κs = search needs
 returns-2 : tie.Need-returns-2
 unfolding headerAnswer
 returns-2 c =
-    ap {A = Header} gives (header-is (c .before .before .before .before .args .sheet .now) (c .head .result) (c .head .ensures)) ∙ answer-given (c .before .before .sheet-refusal .ensures) (c .before .if1 .left) _
+    let tested = c .before in
+    let start = tested .before .before .before in
+    ap {A = Header} gives (header-is (start .args .sheet .now) (c .head .result) (c .head .ensures))
+    ∙ answer-given (tested .before .sheet-refusal .ensures) (tested .if1 .left) _
 
 pub header-spec : {M : Type 1} → statement M
 header-spec = tie.close (tie.spec sheet-refusal-requires returns head-requires returns-2)

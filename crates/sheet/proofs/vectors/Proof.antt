@@ -8,7 +8,10 @@ use Rattle.sheet.proofs.vectors.Statement.{statement}
 use Rattle.sheet.proofs.vectors.Tie as tie
 
 -- where the header was read: nothing is refused
-known : (c : tie.After-head) → Vectors (c .before .before .before .before .args .sheet .now) (c .head .result) (length (c .before .before .before .before .args .buffer .now))
+abbrev start : tie.After-head → tie.Start
+start c = c .before .before .before .before
+
+known : (c : tie.After-head) → Vectors (start c .args .sheet .now) (c .head .result) (length (start c .args .buffer .now))
 known c = record { head = c .head .ensures; free = sym (c .before .before .vectors-refusal .ensures) ∙ c .before .if1 .left }
 
 vectors-refusal-requires : tie.Need-vectors-refusal-requires

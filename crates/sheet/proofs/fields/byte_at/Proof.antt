@@ -6,19 +6,15 @@ use lib.ListN.{List·getD-eq-default}
 use Rattle.sheet.proofs.fields.byte_at.Statement.{statement}
 use Rattle.sheet.proofs.fields.byte_at.Tie as tie
 
--- src/fields.rt:36:9
 shared-slice-read-result : tie.Need-shared-slice-read-result
 shared-slice-read-result c = search needs
 
--- src/fields.rt:36:9
 cast-result : tie.Need-cast-result
 cast-result c = omega (arith, c .shared-slice-known .given (c .before .before .args .i))
 
--- src/fields.rt:32:1
 returns : tie.Need-returns
 returns c = (refl, omega (arith, c .shared-slice-known .given (c .before .before .args .i)))
 
--- src/fields.rt:32:1
 returns-2 : tie.Need-returns-2
 returns-2 c = (sym (List·getD-eq-default (c .before .args .sheet .now) 0 (c .if1 .left)), omega arith)
 

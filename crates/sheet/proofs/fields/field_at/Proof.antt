@@ -7,27 +7,25 @@ use Rattle.laws.proofs.Fields.{field-end, field-none}
 use Rattle.sheet.proofs.fields.field_at.Statement.{statement}
 use Rattle.sheet.proofs.fields.field_at.Tie as tie
 
--- src/fields.rt:65:9
 bits-at-requires : tie.Need-bits-at-requires
 bits-at-requires c κs = search needs
 
--- src/fields.rt:67:9
 returns : tie.Need-returns
 returns c =
     let a = c .before .before .before .args in
     let e = c .before .bits-at .ensures in
-    sym (sym (field-end (a .sheet .now) (a .at) (min (a .bits) 16)) ∙ ap (fieldAt (a .sheet .now) (a .at)) (sym e ∙ c .if1 .taken) ∙ field-none (a .sheet .now) (a .at))
+    let ys = a .sheet .now in
+    sym (sym (field-end ys (a .at) (min (a .bits) 16)) ∙ ap (fieldAt ys (a .at)) (sym e ∙ c .if1 .taken) ∙ field-none ys (a .at))
 
--- src/fields.rt:69:5
 field-in-requires : tie.Need-field-in-requires
 field-in-requires c κs = search needs
 
--- src/fields.rt:62:1
 returns-2 : tie.Need-returns-2
 returns-2 c =
     let a = c .before .before .before .before .args in
     let e = c .before .before .bits-at .ensures in
-    c .field-in .ensures ∙ ap (fieldAt (a .sheet .now) (a .at)) e ∙ field-end (a .sheet .now) (a .at) (min (a .bits) 16)
+    let ys = a .sheet .now in
+    c .field-in .ensures ∙ ap (fieldAt ys (a .at)) e ∙ field-end ys (a .at) (min (a .bits) 16)
 
 pub field-at-spec : {M : Type 1} → statement M
 field-at-spec = tie.close (tie.spec bits-at-requires returns field-in-requires returns-2)

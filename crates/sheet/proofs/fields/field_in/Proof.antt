@@ -8,39 +8,30 @@ use Rattle.sheet.proofs.Three.{power-some, cut-small, cut-is, field-in-
 use Rattle.sheet.proofs.fields.field_in.Statement.{statement}
 use Rattle.sheet.proofs.fields.field_in.Tie as tie
 
--- src/fields.rt:57:9
 three-at-requires : tie.Need-three-at-requires
 three-at-requires c κs = search needs
 
--- src/fields.rt:58:17
 sub-result : tie.Need-sub-result
 sub-result c = search needs
 
--- src/fields.rt:58:17
 sub-result-2 : tie.Need-sub-result-2
 sub-result-2 c = search needs
 
--- src/fields.rt:58:17
 cast-result : tie.Need-cast-result
 cast-result c = search needs
 
--- src/fields.rt:58:7
 shr-result : tie.Need-shr-result
 shr-result c = search needs
 
--- src/fields.rt:58:44
 cast-result-2 : tie.Need-cast-result-2
 cast-result-2 c = search needs
 
--- src/fields.rt:58:39
 shl-result : tie.Need-shl-result
 shl-result c = search needs
 
--- src/fields.rt:58:6
 rem-result : tie.Need-rem-result
 rem-result c = power-some (c .before .before .args .bits) (c .before .before .pre .1)
 
--- src/fields.rt:58:5
 cast-result-3 : tie.Need-cast-result-3
 cast-result-3 c =
     let s = c .before .before in
@@ -48,7 +39,6 @@ cast-result-3 c =
     let x = c .three-at .result / 2 ^ (24 - s .args .at % 8 - w) in
     record { fits = cut-small x w (s .pre .1) }
 
--- src/fields.rt:51:1
 returns : tie.Need-returns
 unfolding Bytes
 returns c =

@@ -1,4 +1,5 @@
--- `sheet::put::put_asks` meets its contract. The invariant: the asks that are left, put where the loop is, give what all of them give. Assumes nothing.
+-- `sheet::put::put_asks` meets its contract. The invariant: the asks that are left, put where the loop is, give what all of them give.
+-- Assumes nothing.
 use native.Mathlib.Omega.{arith}
 use Prim.Native.Nat.{_+_, _*_, _-_, _≤_}
 use lib.ListN.{length}
@@ -13,22 +14,20 @@ abbrev μ-loop : tie.MeasureT-loop
 μ-loop out₀ at d c asks ns qs i₀ j₀ q₀ p₀ out i j q p = asks - i
 
 -- in a turn: the ask's numbers and query values are there
-in-numbers : (c : tie.In-loop Inv-loop μ-loop) → c .before .loop .j + 4 ≤ length (c .before .before .before .before .args .ns .now)
-in-numbers c =
-    let s = c .before .before .before .before in
-    let l = c .before .loop in
-    numbers-left (l .inv) (c .loop-test .taken) (s .pre .3) (s .pre .4)
+abbrev start : tie.In-loop Inv-loop μ-loop → tie.Start Inv-loop μ-loop
+start c = c .before .before .before .before
 
-in-queries : (c : tie.In-loop Inv-loop μ-loop) → c .before .loop .q + c .before .before .before .before .args .d ≤ length (c .before .before .before .before .args .qs .now)
-in-queries c =
-    let s = c .before .before .before .before in
-    let l = c .before .loop in
-    queries-left (l .inv) (c .loop-test .taken) (s .pre .3) (s .pre .4)
+in-numbers : (c : tie.In-loop Inv-loop μ-loop) → c .before .loop .j + 4 ≤ length (start c .args .ns .now)
+in-numbers c = numbers-left (c .before .loop .inv) (c .loop-test .taken) (start c .pre .3) (start c .pre .4)
+
+in-queries : (c : tie.In-loop Inv-loop μ-loop) → c .before .loop .q + start c .args .d ≤ length (start c .args .qs .now)
+in-queries c = queries-left (c .before .loop .inv) (c .loop-test .taken) (start c .pre .3) (start c .pre .4)
 
 loop-holds : tie.Need-loop-holds Inv-loop μ-loop
 loop-holds c =
     let s = c .before .before in
-    turn-start (s .args .d) (s .args .c) (s .args .asks) (s .args .ns .now) (s .args .qs .now) (s .args .at) (s .args .out .now) (s .pre .1)
+    let a = s .args in
+    turn-start (a .d) (a .c) (a .asks) (a .ns .now) (a .qs .now) (a .at) (a .out .now) (s .pre .1)
 
 add-f : tie.Need-add-f Inv-loop μ-loop
 add-f c = omega (arith, in-numbers c)
@@ -59,14 +58,17 @@ part-put-ask-end-2 c = omega (arith, in-queries (c .before .before))
 
 put-ask-requires : tie.Need-put-ask-requires Inv-loop μ-loop
 put-ask-requires c κs =
-    let s = c .before .before .before .before .before .before .before in
-    let l = c .before .before .before .before .loop in
-    let room = turn-room (l .inv) (c .before .before .before .loop-test .taken) (s .pre .3) (s .pre .4) (s .args .at + s .args .asks * (36 + s .args .d * s .args .c)) (omega arith) in (
+    let turn = c .before .before .before in
+    let known = turn .before .loop .inv in
+    let more = turn .loop-test .taken in
+    let s = start turn in
+    let a = s .args in
+    let room = turn-room known more (s .pre .3) (s .pre .4) (a .at + a .asks * (36 + a .d * a .c)) (omega arith) in (
       s .pre .0,
-      turn-four (l .inv) (c .before .before .before .loop-test .taken) (s .pre .3) (s .pre .4),
-      turn-fits (l .inv) (c .before .before .before .loop-test .taken) (s .pre .3) (s .pre .4),
-      turn-values (l .inv) (c .before .before .before .loop-test .taken) (s .pre .3) (s .pre .4) (s .pre .2),
-      omega (arith, room, l .inv .as-long),
+      turn-four known more (s .pre .3) (s .pre .4),
+      turn-fits known more (s .pre .3) (s .pre .4),
+      turn-values known more (s .pre .3) (s .pre .4) (s .pre .2),
+      omega (arith, room, known .as-long),
       omega (arith, room),
     )
 
@@ -78,10 +80,11 @@ loop-less c = omega arith
 
 loop-again : tie.Need-loop-again Inv-loop μ-loop
 loop-again c =
-    let s = c .before .before .before .before .before .before .before .before .before .before in
-    let l = c .before .before .before .before .before .before .before .loop in
-    let f = c .before .before .put-ask in
-    turn-again (l .inv) (c .before .before .before .before .before .before .loop-test .taken) (s .pre .3) (s .pre .4) (f .last .0) (f .result) (f .ensures .0) (f .kept .0) (f .ensures .1)
+    let put = c .before .before in
+    let turn = put .before .before .before .before in
+    let s = start turn in
+    turn-again (turn .before .loop .inv) (turn .loop-test .taken) (s .pre .3) (s .pre .4)
+    (put .put-ask .ensures .0) (put .put-ask .kept .0) (put .put-ask .ensures .1)
 
 same-length : tie.Need-same-length Inv-loop μ-loop
 same-length c = c .before .loop .inv .as-long

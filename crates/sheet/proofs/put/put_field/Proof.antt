@@ -1,4 +1,5 @@
--- `sheet::put::put_field` meets its contract. The invariant: what is left of the field, put where the loop is, gives what the whole field gives. Assumes nothing.
+-- `sheet::put::put_field` meets its contract. The invariant: what is left of the field, put where the loop is, gives what the whole field gives.
+-- Assumes nothing.
 use native.Mathlib.Omega.{arith}
 use mathlib.Core.Path.{_≡_, refl, sym, ap, _∙_}
 use mathlib.Core.List.{List}
@@ -43,14 +44,18 @@ loop-less c = omega arith
 
 loop-again : tie.Need-loop-again Inv-loop μ-loop
 loop-again c =
-    let l = c .before .before .before .before .before .before .loop in
-    let v = c .before .before .before .before .before .before .before .before .args .v in
-    let t = c .before .before .before .before .part .result in (
+    let put = c .before .before in
+    let parted = put .before .before in
+    let at-loop = parted .before .before in
+    let l = at-loop .loop in
+    let v = at-loop .before .before .args .v in
+    let t = parted .part .result in (
       omega arith,
       omega arith,
       omega arith,
-      ap (λ (o : List ℕ). putBits o (l .p + t) (bits (l .k - t) v)) (c .before .before .put-part .ensures)
-          ∙ field-step (l .out) (l .p) (l .k) t v (c .before .before .before .before .part .ensures .1) ∙ l .inv .3,
+      ap (λ (o : List ℕ). putBits o (l .p + t) (bits (l .k - t) v)) (put .put-part .ensures)
+          ∙ field-step (l .out) (l .p) (l .k) t v (parted .part .ensures .1)
+          ∙ l .inv .3,
     )
 
 same-length : tie.Need-same-length Inv-loop μ-loop

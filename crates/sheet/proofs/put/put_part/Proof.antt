@@ -8,14 +8,18 @@ use Rattle.sheet.proofs.Putting.{power-some, sum-small, byte-small, byt
 use Rattle.sheet.proofs.put.put_part.Statement.{statement}
 use Rattle.sheet.proofs.put.put_part.Tie as tie
 
-x-lt : (c : tie.After-slice-known) → getD (c .before .args .out .now) (c .before .args .at / 8) 0 < 256
-x-lt c = omega (arith, c .slice-known .given (c .before .args .at / 8))
+-- the byte that the bits go into
+abbrev byte : tie.After-slice-known → ℕ
+byte c = getD (c .before .args .out .now) (c .before .args .at / 8) 0
+
+byte-lt : (c : tie.After-slice-known) → byte c < 256
+byte-lt c = omega (arith, c .slice-known .given (c .before .args .at / 8))
 
 slice-read-x : tie.Need-slice-read-x
 slice-read-x c = search needs
 
 cast-x : tie.Need-cast-x
-cast-x c = omega (arith, x-lt c)
+cast-x c = omega (arith, byte-lt c)
 
 sub-kept : tie.Need-sub-kept
 sub-kept c = search needs
@@ -41,10 +45,12 @@ shl-out c = search needs
 rem-out : tie.Need-rem-out
 rem-out c =
     let s = c .before in
-    power-some (getD (s .args .out .now) (s .args .at / 8) 0) (s .args .at % 8) (s .args .k) (s .args .v) (x-lt c) (s .pre .0) (s .pre .1)
+    power-some (byte c) (s .args .at % 8) (s .args .k) (s .args .v) (byte-lt c) (s .pre .0) (s .pre .1)
 
 add-out : tie.Need-add-out
-add-out c = omega (arith, sum-small (getD (c .before .args .out .now) (c .before .args .at / 8) 0) (c .before .args .at % 8) (c .before .args .k) (c .before .args .v) (x-lt c) (c .before .pre .0) (c .before .pre .1))
+add-out c =
+    let s = c .before in
+    omega (arith, sum-small (byte c) (s .args .at % 8) (s .args .k) (s .args .v) (byte-lt c) (s .pre .0) (s .pre .1))
 
 sub-out : tie.Need-sub-out
 sub-out c = search needs
@@ -61,7 +67,7 @@ shl-out-2 c = search needs
 cast-out-3 : tie.Need-cast-out-3
 cast-out-3 c =
     let s = c .before in
-    record { fits = byte-small (getD (s .args .out .now) (s .args .at / 8) 0) (s .args .at % 8) (s .args .k) (s .args .v) (x-lt c) (s .pre .0) (s .pre .1) }
+    record { fits = byte-small (byte c) (s .args .at % 8) (s .args .k) (s .args .v) (byte-lt c) (s .pre .0) (s .pre .1) }
 
 slice-write-out : tie.Need-slice-write-out
 slice-write-out c = search needs
@@ -73,8 +79,7 @@ returns : tie.Need-returns
 returns c =
     let s = c .before in
     let a = s .args in
-    let j = a .at / 8 in
-    ap (λ (y : ℕ). set (a .out .now) j y) (byte-is (getD (s .args .out .now) (s .args .at / 8) 0) (s .args .at % 8) (s .args .k) (s .args .v) (x-lt c) (s .pre .0) (s .pre .1))
+    ap (set (a .out .now) (a .at / 8)) (byte-is (byte c) (a .at % 8) (a .k) (a .v) (byte-lt c) (s .pre .0) (s .pre .1))
     ∙ sym (put-part-some (a .out .now) (a .at) (a .k) (a .v) (s .pre .0) (s .pre .1) (s .pre .2))
 
 pub put-part-spec : {M : Type 1} → statement M

@@ -22,13 +22,18 @@ same-length c = search needs
 
 returns : tie.Need-returns
 returns c =
-    let s = c .before .before .before .before .before .before .before .before .before .before .before .before .before .before .before .before .before .args in
-    let f₁ = c .before .before .before .before .before .before .before .before .before .before .before .before .before .before .put-field .ensures in
-    let f₂ = c .before .before .before .before .before .before .before .before .before .before .put-field2 .ensures in
-    let f₃ = c .before .before .before .before .before .before .put-field3 .ensures in
-    let f₄ = c .before .before .put-field4 .ensures in (
+    let c₄ = c .before .before in
+    let c₃ = c₄ .before .before .before .before in
+    let c₂ = c₃ .before .before .before .before in
+    let c₁ = c₂ .before .before .before .before in
+    let a = c₁ .before .before .before .args in
+    let f₁ = c₁ .put-field .ensures in
+    let f₂ = c₂ .put-field2 .ensures in
+    let f₃ = c₃ .put-field3 .ensures in
+    let f₄ = c₄ .put-field4 .ensures in (
       omega arith,
-      put-after _ _ _ _ _ (s .wa) (s .a) _ (f₁ .0) (f₁ .1) (put-after _ _ _ _ _ (s .wb) (s .b) _ (f₂ .0) (f₂ .1) (put-after _ _ _ _ _ (s .wc) (s .c) _ (f₃ .0) (f₃ .1) (f₄ .1))),
+      put-after _ _ (a .wa) (a .a) _ (f₁ .0) (f₁ .1)
+          (put-after _ _ (a .wb) (a .b) _ (f₂ .0) (f₂ .1) (put-after _ _ (a .wc) (a .c) _ (f₃ .0) (f₃ .1) (f₄ .1))),
     )
 
 pub put-row-spec : {M : Type 1} → statement M

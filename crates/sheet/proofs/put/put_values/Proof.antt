@@ -1,11 +1,12 @@
--- `sheet::put::put_values` meets its contract. The invariant: the values that are left, put where the loop is, give what all of them give. Assumes nothing.
+-- `sheet::put::put_values` meets its contract. The invariant: the values that are left, put where the loop is, give what all of them give.
+-- Assumes nothing.
 use native.Mathlib.Omega.{arith}
 use mathlib.Core.Path.{_≡_, refl, sym, ap, _∙_}
 use Prim.Native.Nat.{ℕ, _+_, _*_, _-_, _≤_}
 use native.Mathlib.Nat.{mul-le-mul-right}
 use lib.ListN.{length}
 use borrow.Author.Needs.{needs}
-use Rattle.sheet.proofs.Asking.{putting, putting-done, putting-all, putting-more}
+use Rattle.sheet.proofs.PuttingValues.{putting, putting-done, putting-all, putting-more}
 use Rattle.sheet.proofs.put.put_values.Statement.{statement}
 use Rattle.sheet.proofs.put.put_values.Tie as tie
 
@@ -27,7 +28,8 @@ code-requires c κs = search needs
 
 put-field-requires : tie.Need-put-field-requires Inv-loop μ-loop
 put-field-requires c κs =
-    let m = mul-le-mul-right (c .before .before .before .before .before .before .args .c) (c .before .before .before .loop-test .taken) in
+    let turn = c .before .before .before in
+    let m = mul-le-mul-right (turn .before .before .before .args .c) (turn .loop-test .taken) in
     omega arith
 
 add-i : tie.Need-add-i Inv-loop μ-loop
@@ -38,14 +40,17 @@ loop-less c = omega arith
 
 loop-again : tie.Need-loop-again Inv-loop μ-loop
 loop-again c =
-    let s = c .before .before .before .before .before .before .before .before .before in
-    let l = c .before .before .before .before .before .before .before .loop in
-    let f = c .before .before .put-field .ensures in (
+    let put = c .before .before in
+    let coded = put .before in
+    let turn = coded .before .before .before in
+    let l = turn .before .loop in
+    let s = turn .before .before .before in
+    let a = s .args in (
       omega arith,
       omega arith,
       omega arith,
-      putting-more (s .args .c) (s .args .zs .now) (l .out) (l .i) (l .p) (s .pre .0) (s .pre .1) (c .before .before .before .before .before .before .loop-test .taken)
-          (record { sfits = c .before .before .before .before .code-arg .given }) (c .before .before .put-field .last .0) (c .before .before .put-field .result) (c .before .before .before .code .result) (c .before .before .before .code .ensures) (f .0) (f .1)
+      putting-more (a .c) (a .zs .now) (l .out) (l .i) (l .p) (s .pre .0) (s .pre .1) (turn .loop-test .taken)
+          (record { sfits = coded .before .code-arg .given }) (coded .code .ensures) (put .put-field .ensures .0) (put .put-field .ensures .1)
           ∙ l .inv .3,
     )
 
@@ -59,7 +64,9 @@ returns c =
     let e : l .i ≡ length (a .zs .now) = omega arith in
     let m : l .i * a .c ≡ length (a .zs .now) * a .c = ap (λ (x : ℕ). x * a .c) e in (
       omega arith,
-      sym (putting-done (a .c) (a .zs .now) (l .out) (l .i) (l .p) (c .loop-test .left)) ∙ l .inv .3 ∙ putting-all (a .c) (a .zs .now) (a .out .now) (a .at),
+      sym (putting-done (a .c) (a .zs .now) (l .out) (l .i) (l .p) (c .loop-test .left))
+          ∙ l .inv .3
+          ∙ putting-all (a .c) (a .zs .now) (a .out .now) (a .at),
     )
 
 pub put-values-spec : {M : Type 1} → statement M

@@ -6,51 +6,39 @@ use Rattle.rules.specs.Sheet.{points, coords, width, askCount}
 use Rattle.sheet.proofs.read.head.Statement.{statement}
 use Rattle.sheet.proofs.read.head.Tie as tie
 
--- src/read.rt:24:17
 field-from-requires : tie.Need-field-from-requires
 field-from-requires c κs = search needs
 
--- src/read.rt:24:12
 wide-requires : tie.Need-wide-requires
 wide-requires c κs = search needs
 
--- src/read.rt:24:12
 add-t4 : tie.Need-add-t4
 add-t4 c = search needs
 
--- src/read.rt:25:17
 field-from-requires-2 : tie.Need-field-from-requires-2
 field-from-requires-2 c κs = search needs
 
--- src/read.rt:25:12
 wide-requires-2 : tie.Need-wide-requires-2
 wide-requires-2 c κs = search needs
 
--- src/read.rt:25:12
 add-t7 : tie.Need-add-t7
 add-t7 c = search needs
 
--- src/read.rt:26:17
 field-from-requires-3 : tie.Need-field-from-requires-3
 field-from-requires-3 c κs = search needs
 
--- src/read.rt:26:12
 wide-requires-3 : tie.Need-wide-requires-3
 wide-requires-3 c κs = search needs
 
--- src/read.rt:26:12
 add-t10 : tie.Need-add-t10
 add-t10 c = search needs
 
--- src/read.rt:27:20
 field-from-requires-4 : tie.Need-field-from-requires-4
 field-from-requires-4 c κs = search needs
 
--- src/read.rt:27:15
 wide-requires-4 : tie.Need-wide-requires-4
 wide-requires-4 c κs = search needs
 
--- src/read.rt:20:1
 returns : tie.Need-returns
 unfolding points coords width askCount
 returns c =

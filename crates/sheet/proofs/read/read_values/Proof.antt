@@ -23,20 +23,24 @@ field-from-requires c κs = search needs
 
 signed-value-requires : tie.Need-signed-value-requires Inv-loop μ-loop
 signed-value-requires c κs =
-    let s = c .before .before .before .before in
-    let loop = c .before .before .loop in
-    let loop-test = c .before .loop-test in
-    (s .pre .0, s .pre .1, read-small (s .args .sheet .now) (s .args .c) (loop .buffer) (loop .i) (loop .p) (loop-test .taken) (s .pre .1) (c .field-from .result) (c .field-from .ensures))
+    let at-loop = c .before .before in
+    let s = at-loop .before .before in
+    (s .pre .0, s .pre .1, read-small (s .args .sheet .now) (s .args .c) (at-loop .loop .p) (s .pre .1) (c .field-from .ensures))
 
 slice-set-from-buffer : tie.Need-slice-set-from-buffer Inv-loop μ-loop
 slice-set-from-buffer c = omega arith
 
 add-p : tie.Need-add-p Inv-loop μ-loop
 add-p c =
-    let a = c .before .before .before .before .before .args in
-    let l = c .before .before .before .loop in
-    let h = next-small (a .at) (a .c) (l .i) (length (l .buffer)) (length (a .buffer .now)) (l .p) (l .inv .2) (c .before .before .loop-test .taken) (l .inv .1) (c .before .before .before .before .before .pre .2) in
-    omega arith
+    let turn = c .before .before in
+    let l = turn .before .loop in
+    let s = turn .before .before .before in
+    let a = s .args in
+    omega (
+      arith,
+      next-small (a .at) (a .c) (l .i) (length (l .buffer)) (length (a .buffer .now)) (l .p) (l .inv .2) (turn .loop-test .taken) (l .inv .1)
+          (s .pre .2),
+    )
 
 add-i : tie.Need-add-i Inv-loop μ-loop
 add-i c = omega arith
@@ -46,11 +50,16 @@ loop-less c = simp length-set (omega arith)
 
 loop-again : tie.Need-loop-again Inv-loop μ-loop
 loop-again c =
-    let f = c .signed-value in (
+    let f = c .signed-value in
+    let turn = c .before .before in
+    let l = turn .before .loop in
+    let s = turn .before .before .before in (
       simp length-set (omega arith),
       simp length-set (omega arith),
       omega arith,
-      reading-more (c .before .before .before .before .before .args .sheet .now) (c .before .before .before .before .before .args .c) (c .before .before .before .loop .buffer) (c .before .before .before .loop .i) (c .before .before .before .loop .p) (c .before .before .loop-test .taken) (c .before .before .before .before .before .pre .1) (c .before .field-from .result) (c .before .field-from .ensures) (f .result) (f .ensures) (record { sfits = f .ok }) ∙ c .before .before .before .loop .inv .3,
+      reading-more (s .args .sheet .now) (s .args .c) (l .p) (s .pre .1) (c .before .field-from .ensures)
+          (l .buffer) (l .i) (turn .loop-test .taken) (f .ensures) (record { sfits = f .ok })
+          ∙ l .inv .3,
     )
 
 same-length : tie.Need-same-length Inv-loop μ-loop
@@ -58,9 +67,11 @@ same-length c = omega arith
 
 returns : tie.Need-returns Inv-loop μ-loop
 returns c =
-    let s = c .before .before .before in
-    let loop = c .before .loop in
-    sym (reading-none (s .args .sheet .now) (s .args .c) (loop .buffer) (loop .i) (loop .p) (c .loop-test .left)) ∙ loop .inv .3 ∙ reading-all (s .args .sheet .now) (s .args .c) (s .args .buffer .now) (s .args .at)
+    let a = c .before .before .before .args in
+    let l = c .before .loop in
+    sym (reading-none (a .sheet .now) (a .c) (l .buffer) (l .i) (l .p) (c .loop-test .left))
+    ∙ l .inv .3
+    ∙ reading-all (a .sheet .now) (a .c) (a .buffer .now) (a .at)
 
 pub read-values-spec : {M : Type 1} → statement M
 read-values-spec =

@@ -5,7 +5,10 @@ use Rattle.sheet.proofs.read.sheet_refusal.Statement.{statement}
 use Rattle.sheet.proofs.read.sheet_refusal.Tie as tie
 
 -- where the bits were counted
-known : (c : tie.After-bit-count) → Counted (c .before .before .before .before .before .before .args .sheet .now) (c .before .before .before .head .result) (c .bit-count .result)
+abbrev start : tie.After-bit-count → tie.Start
+start c = c .before .before .before .before .before .before
+
+known : (c : tie.After-bit-count) → Counted (start c .args .sheet .now) (c .before .before .before .head .result) (c .bit-count .result)
 known c =
     let tested = c .before in
     let read = tested .before .before in

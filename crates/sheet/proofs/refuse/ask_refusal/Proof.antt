@@ -1,14 +1,43 @@
--- `sheet::refuse::ask_refusal` meets its contract. Each return is a test of the order. Assumes nothing.
+-- `sheet::refuse::ask_refusal` meets its contract: each return rewrites with the tests that led there. Assumes nothing.
 use borrow.Author.Needs.{needs}
-use mathlib.Core.Bool.{true, false}
-use Rattle.sheet.proofs.Refusing.{is-test, ask-6, ask-7, ask-8, ask-9, ask-0}
+use mathlib.Core.Path.{_≡_, sym, ap, _∙_}
+use mathlib.Core.Bool.{false}
+use lib.Dec.{leb}
+use borrow.Author.Tests.{lt-ltb, le-ltb, le-leb, lt-leb}
+use Rattle.rules.specs.Refusals.{outside, askRefusal}
 use Rattle.sheet.proofs.refuse.ask_refusal.Statement.{statement}
 use Rattle.sheet.proofs.refuse.ask_refusal.Tie as tie
 
+-- the start, from the place after each of the first three tests
+abbrev start₁ : tie.Else1 → tie.Start
+start₁ c = c .before
+
+abbrev start₂ : tie.Else2 → tie.Start
+start₂ c = start₁ (c .before .before .before)
+
+abbrev start₃ : tie.Else3 → tie.Start
+start₃ c = start₂ (c .before .before .before)
+
+-- width and k are widened before they are tested
+width-test : (c : tie.After-is-outside) → outside 1 128 (start₁ (c .before .before) .args .width) ≡ c .is-outside .result
+width-test c = sym (c .is-outside .ensures ∙ ap (outside 1 128) (c .before .wide .ensures .0))
+
+k-test : (c : tie.After-is-outside2) → outside 1 128 (start₂ (c .before .before) .args .k) ≡ c .is-outside2 .result
+k-test c = sym (c .is-outside2 .ensures ∙ ap (outside 1 128) (c .before .wide2 .ensures .0))
+
+-- what those tests tell
+start-ok : (c : tie.Else1) → leb 128 (start₁ c .args .start) ≡ false
+start-ok c = lt-leb _ _ (c .if1 .left)
+
+width-ok : (c : tie.Else2) → outside 1 128 (start₂ c .args .width) ≡ false
+width-ok c = width-test (c .before) ∙ c .if2 .left
+
+k-ok : (c : tie.Else3) → outside 1 128 (start₃ c .args .k) ≡ false
+k-ok c = k-test (c .before) ∙ c .if3 .left
+
 returns : tie.Need-returns
-returns c =
-    let s = c .before in
-    ask-6 (s .args .start) (s .args .width) (s .args .k) (s .args .threshold) (c .if1 .taken)
+unfolding askRefusal
+returns c = simp (le-leb _ _ (c .if1 .taken))
 
 wide-requires : tie.Need-wide-requires
 wide-requires c κs = search needs
@@ -17,12 +46,8 @@ is-outside-requires : tie.Need-is-outside-requires
 is-outside-requires c κs = search needs
 
 returns-2 : tie.Need-returns-2
-returns-2 c =
-    let s = c .before .before .before .before in
-    let if1 = c .before .before .before .if1 in
-    let wide = c .before .before .wide in
-    let is-outside = c .before .is-outside in
-    ask-7 (s .args .start) (s .args .width) (s .args .k) (s .args .threshold) (if1 .left) (is-test (wide .result) _ (wide .ensures .0) (is-outside .result) true (is-outside .ensures) (c .if2 .taken))
+unfolding askRefusal
+returns-2 c = simp (start-ok (c .before .before .before), width-test (c .before) ∙ c .if2 .taken)
 
 wide-requires-2 : tie.Need-wide-requires-2
 wide-requires-2 c κs = search needs
@@ -31,39 +56,24 @@ is-outside-requires-2 : tie.Need-is-outside-requires-2
 is-outside-requires-2 c κs = search needs
 
 returns-3 : tie.Need-returns-3
+unfolding askRefusal
 returns-3 c =
-    let s = c .before .before .before .before .before .before .before in
-    let if1 = c .before .before .before .before .before .before .if1 in
-    let wide = c .before .before .before .before .before .wide in
-    let is-outside = c .before .before .before .before .is-outside in
-    let if2 = c .before .before .before .if2 in
-    let wide2 = c .before .before .wide2 in
-    let is-outside2 = c .before .is-outside2 in
-    ask-8 (s .args .start) (s .args .width) (s .args .k) (s .args .threshold) (if1 .left) (is-test (wide .result) _ (wide .ensures .0) (is-outside .result) false (is-outside .ensures) (if2 .left)) (is-test (wide2 .result) _ (wide2 .ensures .0) (is-outside2 .result) true (is-outside2 .ensures) (c .if3 .taken))
+    let c₂ = c .before .before .before in
+    simp (start-ok (c₂ .before .before .before), width-ok c₂, k-test (c .before) ∙ c .if3 .taken)
 
 returns-4 : tie.Need-returns-4
+unfolding askRefusal
 returns-4 c =
-    let s = c .before .before .before .before .before .before .before .before in
-    let if1 = c .before .before .before .before .before .before .before .if1 in
-    let wide = c .before .before .before .before .before .before .wide in
-    let is-outside = c .before .before .before .before .before .is-outside in
-    let if2 = c .before .before .before .before .if2 in
-    let wide2 = c .before .before .before .wide2 in
-    let is-outside2 = c .before .before .is-outside2 in
-    let if3 = c .before .if3 in
-    ask-9 (s .args .start) (s .args .width) (s .args .k) (s .args .threshold) (if1 .left) (is-test (wide .result) _ (wide .ensures .0) (is-outside .result) false (is-outside .ensures) (if2 .left)) (is-test (wide2 .result) _ (wide2 .ensures .0) (is-outside2 .result) false (is-outside2 .ensures) (if3 .left)) (c .if4 .taken)
+    let c₃ = c .before in
+    let c₂ = c₃ .before .before .before in
+    simp (start-ok (c₂ .before .before .before), width-ok c₂, k-ok c₃, lt-ltb _ _ (c .if4 .taken))
 
 returns-5 : tie.Need-returns-5
+unfolding askRefusal
 returns-5 c =
-    let s = c .before .before .before .before .before .before .before .before in
-    let if1 = c .before .before .before .before .before .before .before .if1 in
-    let wide = c .before .before .before .before .before .before .wide in
-    let is-outside = c .before .before .before .before .before .is-outside in
-    let if2 = c .before .before .before .before .if2 in
-    let wide2 = c .before .before .before .wide2 in
-    let is-outside2 = c .before .before .is-outside2 in
-    let if3 = c .before .if3 in
-    ask-0 (s .args .start) (s .args .width) (s .args .k) (s .args .threshold) (if1 .left) (is-test (wide .result) _ (wide .ensures .0) (is-outside .result) false (is-outside .ensures) (if2 .left)) (is-test (wide2 .result) _ (wide2 .ensures .0) (is-outside2 .result) false (is-outside2 .ensures) (if3 .left)) (c .if4 .left)
+    let c₃ = c .before in
+    let c₂ = c₃ .before .before .before in
+    simp (start-ok (c₂ .before .before .before), width-ok c₂, k-ok c₃, le-ltb _ _ (c .if4 .left))
 
 pub ask-refusal-spec : {M : Type 1} → statement M
 ask-refusal-spec =

@@ -25,11 +25,11 @@ refusal-at-requires c κs = omega arith
 
 returns : tie.Need-returns Inv-loop μ-loop
 returns c =
-    let s = c .before .before .before .before .before in
-    let loop = c .before .before .before .loop in
-    let loop-test = c .before .before .loop-test in
-    let refusal-at = c .before .refusal-at in
-    ask-stops (s .args .asks) (loop .i) (s .args .numbers .now) (loop-test .taken) (refusal-at .result) (refusal-at .ensures) (c .if1 .taken) ∙ loop .inv .1
+    let turn = c .before .before in
+    let loop = turn .before .loop in
+    let a = turn .before .before .before .args in
+    ask-stops (a .asks) (loop .i) (a .numbers .now) (turn .loop-test .taken) (c .before .refusal-at .ensures) (c .if1 .taken)
+    ∙ loop .inv .1
 
 add-i : tie.Need-add-i Inv-loop μ-loop
 add-i c = omega arith
@@ -39,7 +39,13 @@ loop-less c = omega arith
 
 loop-again : tie.Need-loop-again Inv-loop μ-loop
 loop-again c =
-    (omega arith, ask-passes (c .before .before .before .before .before .args .asks) (c .before .before .before .loop .i) (c .before .before .before .before .before .args .numbers .now) (c .before .before .loop-test .taken) (c .before .refusal-at .result) (c .before .refusal-at .ensures) (c .if1 .left) ∙ c .before .before .before .loop .inv .1)
+    let turn = c .before .before in
+    let loop = turn .before .loop in
+    let a = turn .before .before .before .args in (
+      omega arith,
+      ask-passes (a .asks) (loop .i) (a .numbers .now) (turn .loop-test .taken) (c .before .refusal-at .ensures) (c .if1 .left)
+          ∙ loop .inv .1,
+    )
 
 returns-2 : tie.Need-returns-2 Inv-loop μ-loop
 returns-2 c =

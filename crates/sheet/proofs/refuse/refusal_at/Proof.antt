@@ -42,7 +42,9 @@ ask-refusal-requires : tie.Need-ask-refusal-requires
 ask-refusal-requires c κs = search needs
 
 returns : tie.Need-returns
-returns c = c .ask-refusal .ensures ∙ ask-at (c .before .before .before .before .before .before .args .numbers .now) (c .before .before .before .before .before .before .args .j)
+returns c =
+    let a = c .before .before .before .before .before .before .args in
+    c .ask-refusal .ensures ∙ ask-at (a .numbers .now) (a .j)
 
 pub refusal-at-spec : {M : Type 1} → statement M
 refusal-at-spec =

@@ -26,12 +26,13 @@ fits-width-requires c κs = c .before .before .before .pre
 
 returns : tie.Need-returns Inv-loop μ-loop
 returns c =
-    let s = c .before .before .before .before .before in
-    let loop = c .before .before .before .before .loop in
-    let loop-test = c .before .before .before .loop-test in
-    let fits-width-arg = c .before .before .fits-width-arg in
-    let fits-width = c .before .fits-width in
-    all-stops (s .args .c) (s .args .values .now) (loop .i) (loop-test .taken) (record { sfits = fits-width-arg .given }) (fits-width .result) (fits-width .ensures) (not-true (fits-width .result) (c .if1 .taken)) ∙ loop .inv .1
+    let fit = c .before .fits-width in
+    let turn = c .before .before .before in
+    let loop = turn .before .loop in
+    let a = turn .before .before .args in
+    all-stops (a .c) (a .values .now) (loop .i) (turn .loop-test .taken) (record { sfits = c .before .before .fits-width-arg .given })
+    (fit .result) (fit .ensures) (not-true (fit .result) (c .if1 .taken))
+    ∙ loop .inv .1
 
 add-i : tie.Need-add-i Inv-loop μ-loop
 add-i c = omega arith
@@ -40,7 +41,16 @@ loop-less : tie.Need-loop-less Inv-loop μ-loop
 loop-less c = omega arith
 
 loop-again : tie.Need-loop-again Inv-loop μ-loop
-loop-again c = (omega arith, all-passes (c .before .before .before .before .before .args .c) (c .before .before .before .before .before .args .values .now) (c .before .before .before .before .loop .i) (c .before .before .before .loop-test .taken) (record { sfits = c .before .before .fits-width-arg .given }) (c .before .fits-width .result) (c .before .fits-width .ensures) (not-false (c .before .fits-width .result) (c .if1 .left)) ∙ c .before .before .before .before .loop .inv .1)
+loop-again c =
+    let fit = c .before .fits-width in
+    let turn = c .before .before .before in
+    let loop = turn .before .loop in
+    let a = turn .before .before .args in (
+      omega arith,
+      all-passes (a .c) (a .values .now) (loop .i) (turn .loop-test .taken) (record { sfits = c .before .before .fits-width-arg .given })
+          (fit .result) (fit .ensures) (not-false (fit .result) (c .if1 .left))
+          ∙ loop .inv .1,
+    )
 
 returns-2 : tie.Need-returns-2 Inv-loop μ-loop
 returns-2 c =

@@ -39,12 +39,16 @@ negative-requires c κs = omega (arith, half-facts (c .before))
 returns : tie.Need-returns
 returns c =
     let s = c .before .before in
-    toZ-ofZ w8 (c .positive .result) (record { sfits = c .positive .ok }) ∙ c .positive .ensures ∙ lower-half (s .args .c) (s .pre .0) (s .pre .1) (s .args .u) (c .before .if1 .taken)
+    toZ-ofZ w8 (c .positive .result) (record { sfits = c .positive .ok })
+    ∙ c .positive .ensures
+    ∙ lower-half (s .args .c) (s .pre .0) (s .pre .1) (s .args .u) (c .before .if1 .taken)
 
 returns-2 : tie.Need-returns-2
 returns-2 c =
     let s = c .before .before in
-    toZ-ofZ w8 (c .negative .result) (record { sfits = c .negative .ok }) ∙ c .negative .ensures ∙ upper-half (s .args .c) (s .pre .0) (s .pre .1) (s .args .u) (c .before .if1 .left) (s .pre .2)
+    toZ-ofZ w8 (c .negative .result) (record { sfits = c .negative .ok })
+    ∙ c .negative .ensures
+    ∙ upper-half (s .args .c) (s .pre .0) (s .pre .1) (s .args .u) (c .before .if1 .left) (s .pre .2)
 
 pub signed-value-spec : {M : Type 1} → statement M
 signed-value-spec =
