@@ -10,7 +10,7 @@ use Rattle.walk.proofs.Fixed.{stepped-once}
 use Rattle.sheet.specs.declared.place.Place.{Place}
 use Rattle.lines.specs.declared.Placed.{Placed}
 use Rattle.demands.specs.Calls.{StepCall}
-use Rattle.demands.specs.OtherCalls.{OutsideCall, SetRefusalCall, MeasureCall, LabelCall, FieldCall, PlacedCall, PageCall}
+use Rattle.demands.specs.OtherCalls.{OutsideCall, SetRefusalCall, StartRefusalCall, SmallerCall, MeasureCall, LabelCall, FieldCall, PlacedCall, PageCall}
 use Rattle.demands.proofs.Fixed.{one}
 
 -- ---- `space`
@@ -20,6 +20,15 @@ is-outside-fixed g h = one (g .answers) (h .answers)
 
 pub set-refusal-fixed : {n d len x y : ℕ} → SetRefusalCall n d len x → SetRefusalCall n d len y → x ≡ y
 set-refusal-fixed g h = one (g .answers) (h .answers)
+
+pub start-refusal-fixed : {n d vectors table query start x y : ℕ}
+    → StartRefusalCall n d vectors table query start x
+    → StartRefusalCall n d vectors table query start y
+    → x ≡ y
+start-refusal-fixed g h = one (g .answers) (h .answers)
+
+pub smaller-fixed : {x y r s : ℕ} → SmallerCall x y r → SmallerCall x y s → r ≡ s
+smaller-fixed g h = one (g .answers) (h .answers)
 
 pub measure-fixed : {n d id x y : ℕ} {vectors query : List ℤ} → MeasureCall n d vectors id query x → MeasureCall n d vectors id query y → x ≡ y
 measure-fixed g h = one (g .answers) (h .answers)

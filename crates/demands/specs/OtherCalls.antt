@@ -8,7 +8,7 @@ use lib.ListN.{length, take, replicate}
 use Rattle.rules.specs.Points.{dist}
 use Rattle.rules.specs.Labels.{labelOf}
 use Rattle.rules.specs.Sheet.{fieldAt}
-use Rattle.rules.specs.Refusals.{outside, setRefusal}
+use Rattle.rules.specs.Refusals.{outside, setRefusal, startRefusal}
 use Rattle.rules.specs.Entries.{pointOf}
 use Rattle.lines.specs.declared.Placed.{Placed}
 use Rattle.lines.specs.Placing.{placedAnswer, placedAfter}
@@ -20,6 +20,12 @@ pub record OutsideCall (low high x : ℕ) (r : Bool) : Type 0 where
 
 pub record SetRefusalCall (n d len number : ℕ) : Type 0 where
   pub answers : number ≡ setRefusal n d len
+
+pub record StartRefusalCall (n d vectors table query start number : ℕ) : Type 0 where
+  pub answers : number ≡ startRefusal n d vectors table query start
+
+pub record SmallerCall (x y r : ℕ) : Type 0 where
+  pub answers : r ≡ min x y
 
 pub record MeasureCall (n d : ℕ) (vectors : List ℤ) (id : ℕ) (query : List ℤ) (r : ℕ) : Type 0 where
   pub answers : r ≡ dist (take 64 (pointOf n d vectors id)) (take 64 query)

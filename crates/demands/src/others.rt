@@ -6,7 +6,7 @@ ghost use Rattle.rules.specs.Lines.{setLine, foundLine, askRefusedLine, nearLin
 ghost use Rattle.rules.specs.Entries.{ask};
 ghost use Rattle.rules.specs.Program.{linesOf, printed};
 ghost use Rattle.lines.specs.Placing.{threeLines};
-ghost use Rattle.demands.specs.OtherCalls.{OutsideCall, SetRefusalCall, MeasureCall, LabelCall, FieldCall, PlacedCall, PageCall};
+ghost use Rattle.demands.specs.OtherCalls.{OutsideCall, SetRefusalCall, StartRefusalCall, SmallerCall, MeasureCall, LabelCall, FieldCall, PlacedCall, PageCall};
 
 fn is_outside_call(low: usize, high: usize, x: usize) -> bool
     ensures { λ r. ⌜ OutsideCall low high x r ⌝ }
@@ -18,6 +18,25 @@ fn set_refusal_call(n: usize, d: usize, len: usize) -> u8
     ensures { λ r. ⌜ SetRefusalCall n d len r ⌝ }
 {
     space::set_refusal(n, d, len)
+}
+
+fn start_refusal_call(
+    n: usize,
+    d: usize,
+    vectors: usize,
+    table: usize,
+    query: usize,
+    start: usize,
+) -> u8
+    ensures { λ r. ⌜ StartRefusalCall n d vectors table query start r ⌝ }
+{
+    space::start_refusal(n, d, vectors, table, query, start)
+}
+
+fn smaller_call(x: usize, y: usize) -> usize
+    ensures { λ r. ⌜ SmallerCall x y r ⌝ }
+{
+    space::smaller(x, y)
 }
 
 fn measure_call(n: usize, d: usize, vectors: &[i8], id: usize, query: &[i8]) -> u32
