@@ -18,7 +18,8 @@ use Rattle.rules.specs.Walk.{Walk, Step, moved, atEnd, stepped, stepFrom}
 use Rattle.rules.specs.Entries as rules
 use Rattle.rules.specs.Entries.{Ask, tableAfter, goesTo, stepRefused, stepAnswer, recordAfter, endOf, headerAnswer, vectorsAfter, numbersOf, askAnswer, queryAfter}
 use Rattle.rules.specs.Refusals.{buildRefusal}
-use Rattle.laws.proofs.Refusals.{after-new, outcome-none, outcome-value, else-both, build-order, set-ok}
+use Rattle.laws.proofs.Refusals.{after-new, outcome-none, outcome-value, else-both, set-ok}
+use Rattle.laws.proofs.RefusalOrder.{build-order}
 use Rattle.laws.proofs.Edges.{direct-one}
 use Rattle.laws.proofs.Labelled.{label-by-rule}
 use Rattle.laws.proofs.Limits as limits

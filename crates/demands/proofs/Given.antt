@@ -15,9 +15,11 @@ use Rattle.rules.specs.Refusals.{walkRefusal}
 use Rattle.rules.specs.Entries as rules
 use Rattle.rules.specs.Entries.{Ask, farness, orderOf, searched, nearIds, nearDistances, countsOf, askedRefusal, refusalOf, searchAnswer, idsAfter, distancesAfter, trailAfter, endOf, walkAnswer, writeRefused, writeAnswer, outputAfter}
 use Rattle.laws.proofs.Refusals.{after-new, outcome-none, outcome-value}
+use Rattle.laws.proofs.RefusalOrder.{StartOk}
 use Rattle.search.specs.declared.Counts.{Counts}
 use Rattle.search.specs.declared.Searched.the-variants.{Done}
-use Rattle.search.proofs.Finish.{SearchOk, search-ok, small-ids}
+use Rattle.search.proofs.Asked.{search-ok}
+use Rattle.search.proofs.Finish.{small-ids}
 use Rattle.walk.specs.declared.End.{End}
 use Rattle.walk.specs.declared.Walked.the-variants as walked
 use Rattle.walk.specs.Answers.{endIn}
@@ -44,7 +46,7 @@ getD-map f (x ∷ l) (suc j) h = getD-map f l j (omega arith)
 
 -- the counts are those of the rules, and ids, distances and trail are put over the buffers
 pub record Gave (a : Ask) (c : Counts) (ids distances trail ids′ distances′ trail′ : List ℕ) : Type 0 where
-  pub ok : SearchOk (a .n) (a .d) (length (a .vectors)) (length (a .table)) (length (a .query)) (a .start) (a .threshold) (a .width) (a .k) (length ids) (length distances) (length trail)
+  pub ok : StartOk (a .n) (a .d) (length (a .vectors)) (length (a .table)) (length (a .query)) (a .start)
   pub found : c .found ≡ length (nearIds a)
   pub seen : c .seen ≡ count (a .n) (searched a .seen)
   pub walked : c .walked ≡ length (searched a .trail)
@@ -60,7 +62,7 @@ gave-search {a} {c} {ids} {distances} {trail} h =
     let none = outcome-none (refusalOf a ids distances trail) _ _ (sym (h .answers)) in
     let is = sym (outcome-value (refusalOf a ids distances trail) _ _ (sym (h .answers))) in
     record {
-      ok = search-ok _ _ _ _ _ _ _ _ _ _ _ _ none;
+      ok = search-ok _ _ _ _ _ _ _ _ _ _ _ _ none .starts;
       found = ap (λ (k : rules.Counts). k .found) is;
       seen = ap (λ (k : rules.Counts). k .seen) is;
       walked = ap (λ (k : rules.Counts). k .walked) is;

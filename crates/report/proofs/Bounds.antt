@@ -28,7 +28,7 @@ use Rattle.laws.proofs.Distances.{gap-le}
 use Rattle.laws.proofs.Keyed.{keyed-ordered}
 use Rattle.laws.proofs.Nearest.{on-head, on-tail, firsts-nearest}
 use Rattle.laws.proofs.Search.{run-sound}
-use Rattle.search.proofs.Finish.{search-ok}
+use Rattle.search.proofs.Asked.{search-ok}
 use Rattle.lines.specs.declared.Placed.the-variants.{Short}
 use Rattle.lines.proofs.Digits.{length-below, length-part}
 use Rattle.lines.proofs.Ends.{past}
@@ -146,14 +146,14 @@ few : (a : Ask) → askedRefusal a (a .k) (a .k) (a .n) ≡ 0 → Few a
 unfolding askedRefusal nearIds searched answer search orderOf countsOf
 few a e =
     let ok = search-ok (a .n) (a .d) (length (a .vectors)) (length (a .table)) (length (a .query)) (a .start) (a .threshold) (a .width) (a .k) 128 128 128 (same-refusal a ∙ e) in
-    let near = firsts-nearest (orderOf a) (a .n) (keyed-ordered (farness a) (a .n) (ok .few-points)) (a .k) (searched a .seen) in
+    let near = firsts-nearest (orderOf a) (a .n) (keyed-ordered (farness a) (a .n) (ok .starts .few-points)) (a .k) (searched a .seen) in
     let sound = run-sound (a .n) (orderOf a) (edgesOf a) (a .width) (a .n) (eqb (a .start)) in
     record {
       near-few = omega (arith, near .many, ok .ids-room);
-      near-small = λ y o. omega (arith, near .each y o .0, ok .few-points);
-      seen-few = omega (arith, count-le (a .n) (searched a .seen), ok .few-points);
-      trail-few = omega (arith, sound .1, count-le (a .n) (on (searched a .trail)), ok .few-points);
-      trail-small = λ y o. omega (arith, sound .0 y o .0, ok .few-points);
+      near-small = λ y o. omega (arith, near .each y o .0, ok .starts .few-points);
+      seen-few = omega (arith, count-le (a .n) (searched a .seen), ok .starts .few-points);
+      trail-few = omega (arith, sound .1, count-le (a .n) (on (searched a .trail)), ok .starts .few-points);
+      trail-small = λ y o. omega (arith, sound .0 y o .0, ok .starts .few-points);
     }
 
 module _ (i : ℕ) (a : Ask) (h : i < 1000) (near : (y : ℕ) → farness a y < 10000000) where
