@@ -11,7 +11,9 @@ use Rattle.search.specs.declared.Searched.{Searched}
 use Rattle.search.proofs.Told.{search-told}
 use Rattle.walk.specs.declared.Answer.{Answer}
 use Rattle.walk.specs.declared.Walked.{Walked}
-use Rattle.walk.proofs.Fixed.{told-once, told-end-once}
+use Rattle.walk.specs.declared.Walk.{Walk as Kept}
+use Rattle.walk.specs.Answers.{recordOf}
+use Rattle.walk.proofs.Fixed.{told-once, record-once, told-end-once}
 use Rattle.sheet.specs.declared.Written.{Written}
 use Rattle.sheet.specs.declared.Headed.{Headed}
 use Rattle.sheet.specs.declared.Asked.{Asked}
@@ -38,8 +40,13 @@ pub search-fixed : {a : Ask} {ids distances trail i j d e t u : List ℕ} {r s :
 search-fixed {r = r} {s = s} g h =
     (search-told r s (one (g .answers) (h .answers)), one (g .ids-hold) (h .ids-hold), one (g .distances-hold) (h .distances-hold), one (g .trail-holds) (h .trail-holds))
 
-pub step-fixed : {n d threshold : ℕ} {vectors query : List ℤ} {table : List ℕ} {w v u : Walk} {r s : Answer} → StepCall n d vectors table query threshold w r v → StepCall n d vectors table query threshold w s u → (r ≡ s) × (v ≡ u)
-step-fixed {r = r} {s = s} g h = (told-once r s (one (g .answers) (h .answers)), one (g .record-holds) (h .record-holds))
+-- the record that the caller keeps is fixed too, since the rules' record loses nothing of it
+pub step-fixed : {n d threshold : ℕ} {vectors query : List ℤ} {table : List ℕ} {w : Walk} {v u : Kept} {r s : Answer}
+    → StepCall n d vectors table query threshold w r (recordOf v)
+    → StepCall n d vectors table query threshold w s (recordOf u)
+    → (r ≡ s) × (v ≡ u)
+step-fixed {v = v} {u = u} {r = r} {s = s} g h =
+    (told-once r s (one (g .answers) (h .answers)), record-once v u (one (g .record-holds) (h .record-holds)))
 
 pub walk-fixed : {n d threshold start : ℕ} {vectors query : List ℤ} {table : List ℕ} {r s : Walked} → WalkCall n d vectors table query threshold start r → WalkCall n d vectors table query threshold start s → r ≡ s
 walk-fixed {r = r} {s = s} g h = told-end-once r s (one (g .answers) (h .answers))
