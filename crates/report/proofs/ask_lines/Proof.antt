@@ -9,9 +9,9 @@ use Rattle.report.proofs.ask_lines.Tie as tie
 use Rattle.report.proofs.ask_lines.Reads as reads
 use Rattle.report.proofs.ask_lines.Lts as lts
 use Rattle.lines.proofs.ask_refused_line.Reads as ask-refused-line-reads
-use Rattle.report.proofs.found_lines.Reads as found-lines-reads
-use Rattle.report.proofs.wide.Reads as wide-reads
-use Rattle.report.proofs.wide8.Reads as wide8-reads
+use Rattle.report.proofs.found.found_lines.Reads as found-lines-reads
+use Rattle.report.proofs.found.wide.Reads as wide-reads
+use Rattle.report.proofs.found.wide8.Reads as wide8-reads
 use Rattle.search.proofs.search.Reads as search-reads
 
 -- src/lib.rt:91:9

@@ -9,7 +9,7 @@ use Rattle.report.proofs.print.Tie as tie
 use Rattle.report.proofs.print.Reads as reads
 use Rattle.report.proofs.print.Lts as lts
 use Rattle.lines.proofs.place.Reads as place-reads
-use Rattle.report.proofs.fill.Reads as fill-reads
+use Rattle.report.proofs.whole.fill.Reads as fill-reads
 use Rattle.report.proofs.page.Reads as page-reads
 
 -- src/lib.rt:233:21

@@ -1,11 +1,11 @@
--- `report::found_lines` meets its contract. Assumes nothing.
+-- `report::found::found_lines` meets its contract. Assumes nothing.
 use mathlib.Core.Path.{sym}
 use lib.Seq.{length-take-le}
 use borrow.Author.Needs.{needs}
-use Rattle.report.proofs.found_lines.Statement.{statement}
-use Rattle.report.proofs.found_lines.Tie as tie
-use Rattle.report.proofs.found_lines.Reads as reads
-use Rattle.report.proofs.found_lines.Lts as lts
+use Rattle.report.proofs.found.found_lines.Statement.{statement}
+use Rattle.report.proofs.found.found_lines.Tie as tie
+use Rattle.report.proofs.found.found_lines.Reads as reads
+use Rattle.report.proofs.found.found_lines.Lts as lts
 use Rattle.lines.proofs.answer_lines.Reads as answer-lines-reads
 
 -- src/lib.rt:51:9

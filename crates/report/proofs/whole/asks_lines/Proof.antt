@@ -1,4 +1,4 @@
--- `report::asks_lines` meets its contract. Assumes nothing.
+-- `report::whole::asks_lines` meets its contract. Assumes nothing.
 use Prim.Native.Nat.{ℕ, _+_, _-_, _≤_, _<_}
 use mathlib.Core.Path.{_≡_, subst}
 use lib.ListN.{length}
@@ -8,11 +8,11 @@ use Rattle.report.specs.Pages.{Paged}
 use Rattle.report.proofs.Sheets.{asks-none, asks-next, asks-short}
 use borrow.Author.Needs.{needs}
 use native.Mathlib.Omega.{arith}
-use Rattle.report.proofs.asks_lines.Statement.{statement}
-use Rattle.report.proofs.asks_lines.Tie as tie
-use Rattle.report.proofs.asks_lines.Reads as reads
-use Rattle.report.proofs.asks_lines.Lts as lts
-use Rattle.report.proofs.sheet_ask.Reads as sheet-ask-reads
+use Rattle.report.proofs.whole.asks_lines.Statement.{statement}
+use Rattle.report.proofs.whole.asks_lines.Tie as tie
+use Rattle.report.proofs.whole.asks_lines.Reads as reads
+use Rattle.report.proofs.whole.asks_lines.Lts as lts
+use Rattle.report.proofs.whole.sheet_ask.Reads as sheet-ask-reads
 
 abbrev Inv-loop : tie.InvT-loop
 Inv-loop sheet asks n d vectors table query₀ page₀ at end₀ i₀ query page end i = (i ≤ asks) × (length query ≡ d) × Paged at (asksLines sheet table i) page₀ page (End end)

@@ -1,14 +1,14 @@
--- `report::sheet_ask` meets its contract. Assumes nothing.
+-- `report::whole::sheet_ask` meets its contract. Assumes nothing.
 use mathlib.Core.Path.{sym, ap, _∙_}
 use Rattle.rules.specs.Program.{linesOf}
 use Rattle.sheet.specs.Answers.{askTold}
 use Rattle.report.proofs.Pages.{paged}
 use Rattle.report.proofs.Sheets.{not-refused, ask-read}
 use borrow.Author.Needs.{needs}
-use Rattle.report.proofs.sheet_ask.Statement.{statement}
-use Rattle.report.proofs.sheet_ask.Tie as tie
-use Rattle.report.proofs.sheet_ask.Reads as reads
-use Rattle.report.proofs.sheet_ask.Lts as lts
+use Rattle.report.proofs.whole.sheet_ask.Statement.{statement}
+use Rattle.report.proofs.whole.sheet_ask.Tie as tie
+use Rattle.report.proofs.whole.sheet_ask.Reads as reads
+use Rattle.report.proofs.whole.sheet_ask.Lts as lts
 use Rattle.report.proofs.ask_lines.Reads as ask-lines-reads
 use Rattle.sheet.proofs.ask.Reads as ask-reads
 

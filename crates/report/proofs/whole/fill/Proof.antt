@@ -1,4 +1,4 @@
--- `report::fill` meets its contract. Assumes nothing.
+-- `report::whole::fill` meets its contract. Assumes nothing.
 use lib.Seq.{length-take-le}
 use mathlib.Core.Path.{sym, ap, _∙_}
 use Rattle.laws.proofs.Refusals.{small-product, small-square}
@@ -7,13 +7,13 @@ use Rattle.report.proofs.Pages.{paged}
 use Rattle.report.proofs.Sheets.{sheet-refused, sheet-headed}
 use native.Mathlib.Omega.{arith}
 use borrow.Author.Needs.{needs}
-use Rattle.report.proofs.fill.Statement.{statement}
-use Rattle.report.proofs.fill.Tie as tie
-use Rattle.report.proofs.fill.Reads as reads
-use Rattle.report.proofs.fill.Lts as lts
+use Rattle.report.proofs.whole.fill.Statement.{statement}
+use Rattle.report.proofs.whole.fill.Tie as tie
+use Rattle.report.proofs.whole.fill.Reads as reads
+use Rattle.report.proofs.whole.fill.Lts as lts
 use Rattle.lines.proofs.refused_line.Reads as refused-line-reads
-use Rattle.report.proofs.set_lines.Reads as set-lines-reads
-use Rattle.report.proofs.wide8.Reads as wide8-reads
+use Rattle.report.proofs.whole.set_lines.Reads as set-lines-reads
+use Rattle.report.proofs.found.wide8.Reads as wide8-reads
 use Rattle.sheet.proofs.header.Reads as header-reads
 
 -- src/lib.rt:196:9

@@ -1,15 +1,15 @@
--- `report::set_lines` meets its contract. Assumes nothing.
+-- `report::whole::set_lines` meets its contract. Assumes nothing.
 use mathlib.Core.Path.{refl, sym, _∙_}
 use Rattle.report.proofs.Pages.{paged, paged-front}
 use Rattle.report.proofs.Sheets.{asks-few, set-read, table-built, whole-set, whole-short}
 use native.Mathlib.Omega.{arith}
 use borrow.Author.Needs.{needs}
-use Rattle.report.proofs.set_lines.Statement.{statement}
-use Rattle.report.proofs.set_lines.Tie as tie
-use Rattle.report.proofs.set_lines.Reads as reads
-use Rattle.report.proofs.set_lines.Lts as lts
+use Rattle.report.proofs.whole.set_lines.Statement.{statement}
+use Rattle.report.proofs.whole.set_lines.Tie as tie
+use Rattle.report.proofs.whole.set_lines.Reads as reads
+use Rattle.report.proofs.whole.set_lines.Lts as lts
 use Rattle.lines.proofs.set_line.Reads as set-line-reads
-use Rattle.report.proofs.asks_lines.Reads as asks-lines-reads
+use Rattle.report.proofs.whole.asks_lines.Reads as asks-lines-reads
 use Rattle.sheet.proofs.vectors.Reads as vectors-reads
 use Rattle.table.proofs.build.Reads as build-reads
 
