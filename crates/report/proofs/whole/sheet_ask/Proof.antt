@@ -12,41 +12,42 @@ use Rattle.report.proofs.whole.sheet_ask.Lts as lts
 use Rattle.report.proofs.ask_lines.Reads as ask-lines-reads
 use Rattle.sheet.proofs.ask.Reads as ask-reads
 
--- src/lib.rt:127:9
 ask-requires : tie.Need-ask-requires
 ask-requires c κs = search needs
 
--- src/lib.rt:129:30
 enum-told : tie.Need-enum-told
 enum-told c = search needs
 
--- src/lib.rt:131:13
 enum-known-asked : tie.Need-enum-known-asked
 enum-known-asked c = search needs
 
--- src/lib.rt:135:14
 ask-lines-requires : tie.Need-ask-lines-requires
 ask-lines-requires c κs = search needs
 
--- src/lib.rt:112:1
 same-length : tie.Need-same-length
 same-length c = search needs
 
--- src/lib.rt:112:1
 returns : tie.Need-returns
-returns c = absurd (not-refused (c .before .before .before .before .before .before .before .before .pre .0) (c .before .before .before .before .before .before .before .before .args .number) (c .before .before .before .before .before .before .before .before .pre .1 .0) (c .before .before .before .before .before .before .before .before .args .query .now) (c .before .before .before .before .before .before .before .before .pre .1 .1) _ (ap askTold (sym (c .enum-told .given .1)) ∙ c .before .before .before .ask .ensures .0))
+returns c =
+    let called = c .before .before .before in
+    let entry = called .before .before .before .before .before in
+    let told = ap askTold (sym (c .enum-told .given .1)) ∙ called .ask .ensures .0 in
+    absurd (not-refused (entry .pre .0) (entry .args .number) (entry .pre .1 .0) (entry .args .query .now) (entry .pre .1 .1) _ told)
 
--- src/lib.rt:112:1
 same-length-2 : tie.Need-same-length-2
 same-length-2 c = search needs
 
--- src/lib.rt:112:1
 same-length-3 : tie.Need-same-length-3
 same-length-3 c = search needs
 
--- src/lib.rt:112:1
 returns-2 : tie.Need-returns-2
-returns-2 c = paged _ _ _ _ (ap (linesOf _) (ask-read (c .before .before .before .before .before .before .before .before .before .before .before .before .before .before .pre .0) (c .before .before .before .before .before .before .before .before .before .before .before .before .before .before .args .number) (c .before .before .before .before .before .before .before .before .before .before .before .before .before .before .pre .1 .0) (c .before .before .before .before .before .before .before .before .before .before .before .before .before .before .args .query .now) (c .before .before .before .before .before .before .before .before .before .before .before .before .before .before .pre .1 .1) _ _ _ _ _ _ (ap askTold (sym (c .before .before .before .before .before .before .asked .given .1)) ∙ c .before .before .before .before .before .before .before .before .before .ask .ensures .0) (c .before .before .before .before .before .before .before .before .before .ask .ensures .1))) (c .before .before .ask-lines .ensures)
+returns-2 c =
+    let read = c .before .before .before .before .before .before in
+    let called = read .before .before .before in
+    let entry = called .before .before .before .before .before in
+    let told = ap askTold (sym (read .asked .given .1)) ∙ called .ask .ensures .0 in
+    let asked = ask-read (entry .pre .0) (entry .args .number) (entry .pre .1 .0) (entry .args .query .now) (entry .pre .1 .1) in
+    paged _ _ _ _ (ap (linesOf _) (asked _ _ _ _ _ _ told (called .ask .ensures .1))) (c .before .before .ask-lines .ensures)
 
 pub sheet-ask-spec : {M : Type 1} → statement M
 sheet-ask-spec =
