@@ -1,19 +1,20 @@
 -- The lines of an ask by what the search answers. Assumes nothing.
-use Prim.Native.Nat.{ℕ, zero, suc, _+_, _*_, _≤_, _<_}
+use Prim.Native.Nat.{ℕ, zero, suc, _*_, _≤_}
 use native.Mathlib.Omega.{arith}
 use mathlib.Core.Path.{_≡_, refl, sym, ap, _∙_}
 use mathlib.Core.Bool.{Bool, true, false, cond, _||_}
-use mathlib.Core.List.{List, [], _∷_, _++_, map}
+use mathlib.Core.List.{List, _++_}
 use lib.Dec.{ltb, leb}
-use lib.ListN.{length, take, drop, length-append, length-drop, length-map}
+use lib.ListN.{length, take, drop, length-append, length-map}
 use lib.Seq.{take-at}
 use borrow.Author.Tests.{le-ltb}
-use Rattle.rules.specs.Outcome.{Outcome, refused, gives, outcome, after, over}
+use Rattle.rules.specs.Outcome.{refused, gives, outcome, over}
 use Rattle.rules.specs.Refusals.{outside, differ, searchRefusal}
-use Rattle.rules.specs.Lines.{foundLine, nearLine, trailLine, askRefusedLine}
-use Rattle.rules.specs.Entries.{Counts, Ask, farness, searched, nearIds, nearDistances, countsOf, askedRefusal, refusalOf, searchAnswer, idsAfter, distancesAfter, trailAfter}
+use Rattle.rules.specs.Lines.{askRefusedLine}
+use Rattle.rules.specs.Entries.{Counts, Ask, farness, searched, nearIds, nearDistances, countsOf, askedRefusal, refusalOf}
+use Rattle.rules.specs.Entries.{searchAnswer, idsAfter, distancesAfter, trailAfter}
 use Rattle.rules.specs.Program.{linesOf}
-use Rattle.laws.proofs.Refusals.{inside, outcome-gives, outcome-refused, after-new}
+use Rattle.laws.proofs.Refusals.{inside, outcome-none, outcome-value, after-new}
 use Rattle.lines.specs.Placing.{threeLines}
 
 -- ---- refusal 10 is given by neither length
@@ -73,8 +74,10 @@ module _ (i : ℕ) (a : Ask) where
   lines-by : (v : ℕ) → askedRefusal a 128 128 128 ≡ v → askedRefusal a (a .k) (a .k) (a .n) ≡ v
   lines-by v e = sym (same-refusal a) ∙ e
 
-  lines-zero : askedRefusal a 128 128 128 ≡ 0 → linesOf i a ≡ foundLine i (countsOf a .found) (countsOf a .seen) (countsOf a .walked) ++ (nearLine (nearIds a) (nearDistances a) ++ trailLine (searched a .trail))
-  unfolding linesOf
+  lines-zero :
+      askedRefusal a 128 128 128 ≡ 0 →
+      linesOf i a ≡ threeLines i (countsOf a .found) (countsOf a .seen) (countsOf a .walked) (nearIds a) (nearDistances a) (searched a .trail)
+  unfolding linesOf threeLines
   lines-zero e = rw (linesOf, lines-by 0 e)
 
   lines-suc : (r : ℕ) → askedRefusal a 128 128 128 ≡ suc r → linesOf i a ≡ askRefusedLine i (suc r)
@@ -85,11 +88,6 @@ module _ (i : ℕ) (a : Ask) where
   unfolding outcome
   refused-by r zero e q = let z : _≡_ {A = ℕ} 0 1 = cc in absurd (omega arith)
   refused-by r (suc v) e q = let s : suc v ≡ r = cc in lines-suc v e ∙ ap (askRefusedLine i) s
-
-  given-by : (c : Counts) (v : ℕ) → gives c ≡ outcome v (countsOf a) → (v ≡ 0) × (c ≡ countsOf a)
-  unfolding outcome
-  given-by c zero q = (refl, cc)
-  given-by c (suc v) q = let z : _≡_ {A = ℕ} 0 1 = cc in absurd (omega arith)
 
   -- what the search leaves in the buffers' first cells
   pub record Answered (found seen walked : ℕ) (ids distances trail : List ℕ) : Type 0 where
@@ -104,30 +102,44 @@ module _ (i : ℕ) (a : Ask) where
     buffers li ld lt = rw (li, ld, lt)
 
     -- the line of a refused ask, whose two numbers the code has by other names
-    pub refused-lines : (r j q : ℕ) → refused r ≡ searchAnswer a ids distances trail → length ids ≡ 128 → length distances ≡ 128 → length trail ≡ 128 → j ≡ i → q ≡ r → askRefusedLine j q ≡ linesOf i a
+    pub refused-lines :
+        (r j q : ℕ) → refused r ≡ searchAnswer a ids distances trail → length ids ≡ 128 → length distances ≡ 128 → length trail ≡ 128 →
+        j ≡ i → q ≡ r → askRefusedLine j q ≡ linesOf i a
     unfolding searchAnswer
     refused-lines r j q e li ld lt ej eq =
-        rw (ej, eq) (sym (refused-by r (askedRefusal a 128 128 128) refl (e ∙ ap (λ (v : ℕ). outcome v (countsOf a)) (buffers li ld lt))))
+        let told = e ∙ ap (λ (v : ℕ). outcome v (countsOf a)) (buffers li ld lt) in
+        rw (ej, eq) (sym (refused-by r (askedRefusal a 128 128 128) refl told))
 
-    pub answered : (found seen walked : ℕ) (ids′ distances′ trail′ : List ℕ) → gives (record { found = found; seen = seen; walked = walked }) ≡ searchAnswer a ids distances trail → ids′ ≡ idsAfter a ids distances trail → distances′ ≡ distancesAfter a ids distances trail → trail′ ≡ trailAfter a ids distances trail → length ids ≡ 128 → length distances ≡ 128 → length trail ≡ 128 → Answered found seen walked ids′ distances′ trail′
-    unfolding searchAnswer idsAfter distancesAfter trailAfter over threeLines
+    pub answered :
+        (found seen walked : ℕ) (ids′ distances′ trail′ : List ℕ) →
+        gives (record { found = found; seen = seen; walked = walked }) ≡ searchAnswer a ids distances trail →
+        ids′ ≡ idsAfter a ids distances trail → distances′ ≡ distancesAfter a ids distances trail → trail′ ≡ trailAfter a ids distances trail →
+        length ids ≡ 128 → length distances ≡ 128 → length trail ≡ 128 → Answered found seen walked ids′ distances′ trail′
+    unfolding searchAnswer idsAfter distancesAfter trailAfter over
     answered found seen walked ids′ distances′ trail′ q qi qd qt li ld lt =
-        let g = given-by (record { found = found; seen = seen; walked = walked }) (refusalOf a ids distances trail) q in
-        let f : found ≡ length (nearIds a) = ap (λ (x : Counts). x .found) (g .1) ∙ found-is a in
-        let w : walked ≡ length (searched a .trail) = ap (λ (x : Counts). x .walked) (g .1) ∙ walked-is a in
-        let counted : _≡_ {A = Counts} (record { found = found; seen = seen; walked = walked }) (countsOf a) = g .1 in
+        let r = refusalOf a ids distances trail in
+        let counts : Counts = record { found = found; seen = seen; walked = walked } in
+        let none : r ≡ 0 = outcome-none r (countsOf a) counts (sym q) in
+        let counted : countsOf a ≡ counts = outcome-value r (countsOf a) counts (sym q) in
+        let f : found ≡ length (nearIds a) = ap (λ (x : Counts). x .found) (sym counted) ∙ found-is a in
+        let w : walked ≡ length (searched a .trail) = ap (λ (x : Counts). x .walked) (sym counted) ∙ walked-is a in
         let fd : found ≡ length (nearDistances a) = f ∙ distances-long a in
-        let ei : ids′ ≡ nearIds a ++ drop (length (nearIds a)) ids = qi ∙ after-new (g .0) ids _ in
-        let ed : distances′ ≡ nearDistances a ++ drop (length (nearDistances a)) distances = qd ∙ after-new (g .0) distances _ in
-        let et : trail′ ≡ searched a .trail ++ drop (length (searched a .trail)) trail = qt ∙ after-new (g .0) trail _ in
+        let ei : ids′ ≡ nearIds a ++ drop (length (nearIds a)) ids = qi ∙ after-new none ids _ in
+        let ed : distances′ ≡ nearDistances a ++ drop (length (nearDistances a)) distances = qd ∙ after-new none distances _ in
+        let et : trail′ ≡ searched a .trail ++ drop (length (searched a .trail)) trail = qt ∙ after-new none trail _ in
+        let fi : take found ids′ ≡ nearIds a = front found (nearIds a) ids ids′ f ei in
+        let fs : take found distances′ ≡ nearDistances a = front found (nearDistances a) distances distances′ fd ed in
+        let ft : take walked trail′ ≡ searched a .trail = front walked (searched a .trail) trail trail′ w et in
+        let line : Counts → List ℕ = λ x. threeLines i (x .found) (x .seen) (x .walked) (nearIds a) (nearDistances a) (searched a .trail) in
         record {
           ids-room = front-room found (nearIds a) ids ids′ f ei;
           distances-room = front-room found (nearDistances a) distances distances′ fd ed;
           trail-room = front-room walked (searched a .trail) trail trail′ w et;
-          lines-are = lines-zero (sym (buffers li ld lt) ∙ g .0)
-              ∙ sym (rw (front found (nearIds a) ids ids′ f ei, front found (nearDistances a) distances distances′ fd ed, front walked (searched a .trail) trail trail′ w et) (ap (λ (x : Counts). foundLine i (x .found) (x .seen) (x .walked) ++ (nearLine (nearIds a) (nearDistances a) ++ trailLine (searched a .trail))) counted));
+          lines-are = lines-zero (sym (buffers li ld lt) ∙ none) ∙ ap line counted ∙ sym (rw (fi, fs, ft));
         }
 
   -- the lines of an answered ask, whose number the code has by another name
-  pub answered-lines : {found seen walked : ℕ} {ids distances trail : List ℕ} (j : ℕ) → j ≡ i → Answered found seen walked ids distances trail → threeLines j found seen walked (take found ids) (take found distances) (take walked trail) ≡ linesOf i a
+  pub answered-lines :
+      {found seen walked : ℕ} {ids distances trail : List ℕ} (j : ℕ) → j ≡ i → Answered found seen walked ids distances trail →
+      threeLines j found seen walked (take found ids) (take found distances) (take walked trail) ≡ linesOf i a
   answered-lines j e h = rw e (sym (h .lines-are))

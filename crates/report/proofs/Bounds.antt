@@ -1,28 +1,28 @@
 -- How long the lines of a sheet can be: the page has room for them. Assumes nothing.
-use Prim.Native.Nat.{ℕ, zero, suc, _+_, _-_, _*_, _^_, _≤_, _<_, min}
+use Prim.Native.Nat.{ℕ, zero, suc, _-_, _*_, _^_, _≤_, _<_}
 use native.Mathlib.Nat.{lt-of-lt-of-le, mul-le-mul}
 use native.Mathlib.Omega.{arith}
-use mathlib.Core.Path.{_≡_, refl, sym, ap, _∙_}
+use mathlib.Core.Path.{_≡_, refl, _∙_}
 use mathlib.Core.Bool.{Bool, true, false, cond, _||_}
 use mathlib.Core.List.{List, [], _∷_, _++_, map}
 use lib.Dec.{ltb, leb, eqb}
-use lib.IntN.{ℤ, pos, negsuc, _-ℤ_, natAbs}
+use lib.IntN.{ℤ, pos, negsuc, _-ℤ_}
 use lib.Signed.{mag}
-use lib.ListN.{length, take, drop, length-append, length-map}
+use lib.ListN.{length, take, drop, length-append}
 use lib.Pow.{pow-mono}
 use borrow.Author.Tests.{ltb-true}
 use Rattle.rules.specs.Points.{square, dist, coordinates, away, apart}
 use Rattle.rules.specs.Bits.{fits, allFit, values, unpacked}
-use Rattle.rules.specs.Order.{on, count, firsts}
+use Rattle.rules.specs.Order.{on}
 use Rattle.rules.specs.Labels.{tableOf}
-use Rattle.rules.specs.Search.{State, start, run, search, answer}
+use Rattle.rules.specs.Search.{start, search, answer}
 use Rattle.rules.specs.Sheet.{sheetLength, filling, points, coords, width, askCount, vectorsOf, askPlace, askQuery}
 use Rattle.rules.specs.Refusals.{outside, differ, searchRefusal, sheetRefusal}
 use Rattle.rules.specs.Entries.{Ask, farness, orderOf, edgesOf, searched, nearIds, nearDistances, countsOf, askedRefusal}
 use Rattle.rules.specs.Lines.{part, parts, pairs, setLine, foundLine, askRefusedLine, nearLine, trailLine, refusedLine}
 use Rattle.rules.specs.Program.{askOf, linesOf, asksLines, printed}
 use Rattle.laws.proofs.Tests.{and-l, and-r, count-le}
-use Rattle.laws.proofs.Values.{length-values, values-fit, fit-take, fit-drop}
+use Rattle.laws.proofs.Bits.{length-values, values-fit, fit-take, fit-drop}
 use Rattle.laws.proofs.Fields.{points-small, coords-small, width-small}
 use Rattle.laws.proofs.Distances.{gap-le}
 use Rattle.laws.proofs.Keyed.{keyed-ordered}
@@ -31,7 +31,9 @@ use Rattle.laws.proofs.Search.{run-sound}
 use Rattle.search.proofs.Asked.{search-ok}
 use Rattle.lines.specs.declared.Placed.the-variants.{Short}
 use Rattle.lines.proofs.Digits.{length-below, length-part}
+use Rattle.lines.specs.Placing.{threeLines}
 use Rattle.lines.proofs.Ends.{past}
+use Rattle.lines.proofs.Lengths.{set-length, refused-length, ask-refused-length, found-length, near-length, trail-length, three-length}
 use Rattle.report.specs.Pages.{Paged}
 use Rattle.report.proofs.Asked.{same-refusal}
 use Rattle.report.proofs.Sheets.{asks-few, printed-set, printed-refused}
@@ -95,7 +97,9 @@ far-most ys table i y =
     let vs = values (width ys) (points ys * coords ys) (drop 24 (unpacked ys)) in
     let f = values-fit (width ys) (w .0) (points ys * coords ys) (drop 24 (unpacked ys)) in
     let g = values-fit (width ys) (w .0) (coords ys) bs in
-    let m = dist-most (width ys) (w .1) (take (coords ys) (drop (y * coords ys) vs)) (values (width ys) (coords ys) bs) (fit-take (width ys) (coords ys) (drop (y * coords ys) vs) (fit-drop (width ys) (y * coords ys) vs f)) g in
+    let point = drop (y * coords ys) vs in
+    let h = fit-take (width ys) (coords ys) point (fit-drop (width ys) (y * coords ys) vs f) in
+    let m = dist-most (width ys) (w .1) (take (coords ys) point) (values (width ys) (coords ys) bs) h g in
     omega (arith, m, length-values (width ys) (coords ys) bs, coords-small ys)
 
 -- ---- an ask
@@ -119,20 +123,18 @@ refusal-most a =
     (cond-most (ltb (a .k) (a .k) || (ltb (a .k) (a .k) || ltb (a .n) (a .n))) 10 0 10 (omega arith) (omega arith))))))))))
 
 refused-most : (i r : ℕ) → i < 1000 → r < 1000 → length (askRefusedLine i r) ≤ 2100
-unfolding askRefusedLine
-refused-most i r h k = simp length-append (omega (arith, part-short i h, part-short r k))
+refused-most i r h k = omega (arith, ask-refused-length i r, part-short i h, part-short r k)
 
 found-most : (i f s w : ℕ) → i < 1000 → f < 1000 → s < 1000 → w < 1000 → length (foundLine i f s w) ≤ 38
-unfolding foundLine
-found-most i f s w hi hf hs hw = simp length-append (omega (arith, part-short i hi, part-short f hf, part-short s hs, part-short w hw))
+found-most i f s w hi hf hs hw = omega (arith, found-length i f s w, part-short i hi, part-short f hf, part-short s hs, part-short w hw)
 
-near-most : (f : ℕ → ℕ) → ((y : ℕ) → f y < 10000000) → (l : List ℕ) → ((y : ℕ) → on l y ≡ true → y < 1000) → length l ≤ 128 → length (nearLine l (map f l)) ≤ 1541
-unfolding nearLine
-near-most f near l h k = simp length-append (omega (arith, pairs-most f near l h))
+near-most :
+    (f : ℕ → ℕ) → ((y : ℕ) → f y < 10000000) → (l : List ℕ) → ((y : ℕ) → on l y ≡ true → y < 1000) → length l ≤ 128 →
+    length (nearLine l (map f l)) ≤ 1541
+near-most f near l h k = omega (arith, near-length l (map f l), pairs-most f near l h)
 
 trail-most : (l : List ℕ) → ((y : ℕ) → on l y ≡ true → y < 1000) → length l ≤ 128 → length (trailLine l) ≤ 518
-unfolding trailLine
-trail-most l h k = simp length-append (omega (arith, parts-most l h))
+trail-most l h k = omega (arith, trail-length l, parts-most l h)
 
 -- what a search that is not refused finds, sees and walks is few
 record Few (a : Ask) : Type 0 where
@@ -145,7 +147,11 @@ record Few (a : Ask) : Type 0 where
 few : (a : Ask) → askedRefusal a (a .k) (a .k) (a .n) ≡ 0 → Few a
 unfolding askedRefusal nearIds searched answer search orderOf countsOf
 few a e =
-    let ok = search-ok (a .n) (a .d) (length (a .vectors)) (length (a .table)) (length (a .query)) (a .start) (a .threshold) (a .width) (a .k) 128 128 128 (same-refusal a ∙ e) in
+    let ok = search-ok (a .n) (a .d) (length (a .vectors)) (length (a .table)) (length (a .query)) (a .start) (a .threshold) (a .width) (a .k)
+    128
+    128
+    128
+    (same-refusal a ∙ e) in
     let near = firsts-nearest (orderOf a) (a .n) (keyed-ordered (farness a) (a .n) (ok .starts .few-points)) (a .k) (searched a .seen) in
     let sound = run-sound (a .n) (orderOf a) (edgesOf a) (a .width) (a .n) (eqb (a .start)) in
     record {
@@ -157,16 +163,22 @@ few a e =
     }
 
 module _ (i : ℕ) (a : Ask) (h : i < 1000) (near : (y : ℕ) → farness a y < 10000000) where
-  answered-most : Few a → length (foundLine i (countsOf a .found) (countsOf a .seen) (countsOf a .walked) ++ (nearLine (nearIds a) (nearDistances a) ++ trailLine (searched a .trail))) ≤ 2100
+  answered-most :
+      Few a →
+      length (threeLines i (countsOf a .found) (countsOf a .seen) (countsOf a .walked) (nearIds a) (nearDistances a) (searched a .trail)) ≤ 2100
   unfolding countsOf nearDistances
   answered-most x =
+      let counts = countsOf a in
       let n = near-most (farness a) near (nearIds a) (x .near-small) (x .near-few) in
       let t = trail-most (searched a .trail) (x .trail-small) (x .trail-few) in
-      let f = found-most i (countsOf a .found) (countsOf a .seen) (countsOf a .walked) h (omega (arith, x .near-few)) (omega (arith, x .seen-few)) (omega (arith, x .trail-few)) in
-      simp length-append (omega arith)
+      let f = found-most i (counts .found) (counts .seen) (counts .walked) h
+      (omega (arith, x .near-few))
+      (omega (arith, x .seen-few))
+      (omega (arith, x .trail-few)) in
+      omega (arith, three-length i (counts .found) (counts .seen) (counts .walked) (nearIds a) (nearDistances a) (searched a .trail))
 
   lines-by : (r : ℕ) → askedRefusal a (a .k) (a .k) (a .n) ≡ r → r ≤ 10 → length (linesOf i a) ≤ 2100
-  unfolding linesOf
+  unfolding linesOf threeLines
   lines-by zero e l = rw (linesOf, e) (answered-most (few a e))
   lines-by (suc r) e l = rw (linesOf, e) (refused-most i (suc r) h (omega arith))
 
@@ -187,12 +199,10 @@ asks-most ys table (suc i) l =
     )
 
 set-most : (n d asks : ℕ) → n < 1000 → d < 1000 → asks < 1000 → length (setLine n d asks) ≤ 16
-unfolding setLine
-set-most n d asks hn hd ha = simp length-append (omega (arith, part-short n hn, part-short d hd, part-short asks ha))
+set-most n d asks hn hd ha = omega (arith, set-length n d asks, part-short n hn, part-short d hd, part-short asks ha)
 
 refused-line-most : (r : ℕ) → r < 1000 → length (refusedLine r) ≤ 12
-unfolding refusedLine
-refused-line-most r h = simp length-append (omega (arith, part-short r h))
+refused-line-most r h = omega (arith, refused-length r, part-short r h)
 
 sheet-refusal-most : (ys : List ℕ) → sheetRefusal ys ≤ 16
 unfolding sheetRefusal

@@ -1,24 +1,24 @@
 -- Lines placed one after the other on a page. Assumes nothing.
-use Prim.Native.Nat.{ℕ, zero, suc, _+_, _≤_, _<_}
+use Prim.Native.Nat.{ℕ, _+_, _≤_, _<_}
 use native.Mathlib.Omega.{arith}
 use mathlib.Core.Path.{_≡_, refl, sym, ap, subst, _∙_}
 use mathlib.Core.Logic.{⊎-elim}
-use mathlib.Core.Bool.{true, false}
-use mathlib.Core.List.{List, [], _∷_, _++_, append-assoc, append-nil}
-use lib.Dec.{leb}
+use mathlib.Core.List.{List, [], _++_}
 use lib.ListN.{length, take, drop, length-append}
 use lib.Seq.{take-at}
 use borrow.Author.Tests.{le-leb, lt-leb}
 use Rattle.laws.proofs.Tests.{le-or-lt}
 use Rattle.lines.specs.declared.Placed.{Placed}
 use Rattle.lines.specs.declared.Placed.the-variants.{Short, End}
-use Rattle.lines.specs.Placing.{ending, put, placedAnswer, placedAfter, Put}
+use Rattle.lines.specs.Placing.{ending, put, placedAnswer, placedAfter}
 use Rattle.lines.proofs.Puts.{length-put, put-none, put-append}
-use Rattle.lines.proofs.Ends.{ends-in, ends-past, ended, past}
+use Rattle.lines.proofs.Ends.{ends-in, ended, past, ends-then, short-then}
 use Rattle.report.specs.Pages.{Paged}
 
 -- bytes by another name
-pub placed-as : (at : ℕ) (l m old : List ℕ) {new : List ℕ} {r : Placed} → l ≡ m → (r ≡ placedAnswer at l old) × (new ≡ placedAfter at l old) → (r ≡ placedAnswer at m old) × (new ≡ placedAfter at m old)
+pub placed-as :
+    (at : ℕ) (l m old : List ℕ) {new : List ℕ} {r : Placed} → l ≡ m → (r ≡ placedAnswer at l old) × (new ≡ placedAfter at l old) →
+    (r ≡ placedAnswer at m old) × (new ≡ placedAfter at m old)
 placed-as at l m old e h = (h .0 ∙ ap (λ (x : List ℕ). placedAnswer at x old) e, h .1 ∙ ap (λ (x : List ℕ). placedAfter at x old) e)
 
 after-in : (at : ℕ) (l old : List ℕ) → at + length l ≤ length old → placedAfter at l old ≡ put at l old
@@ -59,16 +59,12 @@ paged-none at old h =
 pub paged-more : {at next : ℕ} {a b old mid new : List ℕ} {r : Placed} → Paged at a old mid (End next) → Paged next b mid new r → Paged at (a ++ b) old new r
 paged-more {at} {next} {a} {b} {old} {mid} {new} {r} x y =
     let f = ended at (length a) (length old) (x .answers) in
-    let l = length-append a b in
     let z = x .size in
-    let same : next + length b ≡ at + length (a ++ b) = omega (arith, f .1) in
+    let ends = ends-then at (length a) (length b) (length old) (x .answers) (y .answers ∙ ap (ending next (length b)) z) in
     record {
-      answers = y .answers ∙ ⊎-elim
-          (λ (h : next + length b ≤ length mid). ends-in next (length b) (length mid) h ∙ ap End same ∙ sym (ends-in at (length (a ++ b)) (length old) (omega arith)))
-          (λ (h : length mid < next + length b). ends-past next (length b) (length mid) h ∙ sym (ends-past at (length (a ++ b)) (length old) (omega arith)))
-          (le-or-lt (next + length b) (length mid));
-      holds = λ k. y .holds (omega arith) ∙ rw (x .holds (f .0), f .1) (put-append at a b old (f .0));
-      size = y .size ∙ x .size;
+      answers = ends ∙ ap (λ (m : ℕ). ending at m (length old)) (sym (length-append a b));
+      holds = λ k. y .holds (omega (arith, k, f .1, length-append a b)) ∙ rw (x .holds (f .0), f .1) (put-append at a b old (f .0));
+      size = y .size ∙ z;
     }
 
 -- what does not end on the page does not with more after it
@@ -77,7 +73,7 @@ paged-short {at} {a} {old} {mid} x b =
     let p = past at (length a) (length old) (x .answers) in
     let l = length-append a b in
     record {
-      answers = sym (ends-past at (length (a ++ b)) (length old) (omega arith));
+      answers = short-then at (length a) (length b) (length old) (x .answers) ∙ ap (λ (m : ℕ). ending at m (length old)) (sym l);
       holds = λ k. absurd (omega (arith, k));
       size = x .size;
     }

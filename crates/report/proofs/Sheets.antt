@@ -4,29 +4,28 @@ use native.Mathlib.Numerals.{add-one}
 use native.Mathlib.Omega.{arith}
 use mathlib.Core.Path.{_≡_, refl, sym, ap, subst, _∙_}
 use mathlib.Core.Logic.{⊎-elim}
-use mathlib.Core.Bool.{Bool, true, false, cond, _||_}
 use mathlib.Core.List.{List, [], _∷_, _++_}
-use lib.Dec.{ltb, leb, eqb}
+use lib.Dec.{ltb}
 use lib.IntN.{ℤ}
 use lib.ListN.{length, getD, drop}
 use borrow.Author.Tests.{le-ltb, lt-leb, eq-eqb, ltb-false}
-use Rattle.rules.specs.Outcome.{Outcome, refused, gives, outcome, after, firstOf}
+use Rattle.rules.specs.Outcome.{refused, gives, outcome, firstOf}
 use Rattle.rules.specs.Points.{apart}
 use Rattle.rules.specs.Labels.{tableOf}
 use Rattle.rules.specs.Bits.{unpacked}
-use Rattle.rules.specs.Sheet.{sheetLength, points, coords, width, askCount, vectorsOf, askNumbers, askQuery}
-use Rattle.rules.specs.Refusals.{refuse3, refuse4, refuse5, refuse17, setRefusal, buildRefusal, sheetRefusal, vectorsRefusal, oneAskRefusal}
-use Rattle.rules.specs.Entries.{Header, Numbers, Ask, ask, numbersOf, headerAnswer, vectorsAfter, askAnswer, queryAfter, tableAfter}
+use Rattle.rules.specs.Sheet.{points, coords, width, askCount, vectorsOf, askNumbers, askQuery}
+use Rattle.rules.specs.Refusals.{refuse3, refuse5, refuse17, buildRefusal, sheetRefusal, vectorsRefusal, oneAskRefusal}
+use Rattle.rules.specs.Entries.{Header, Numbers, ask, numbersOf, headerAnswer, vectorsAfter, askAnswer, queryAfter, tableAfter}
 use Rattle.rules.specs.Lines.{setLine, refusedLine}
 use Rattle.rules.specs.Program.{askOf, linesOf, asksLines, printed}
 use Rattle.laws.proofs.Tests.{le-or-lt}
 use Rattle.laws.proofs.Values.{length-values}
 use Rattle.laws.proofs.Fields.{points-small, coords-small}
-use Rattle.laws.proofs.Refusals.{else-none, skipped, outcome-gives, outcome-refused, after-new}
+use Rattle.laws.proofs.Refusals.{else-none, skipped, outcome-gives, outcome-none, outcome-value, after-new}
 use Rattle.lines.specs.declared.Placed.{Placed}
 use Rattle.lines.specs.declared.Placed.the-variants.{Short, End}
 use Rattle.report.specs.Pages.{Paged, SheetGiven}
-use Rattle.report.proofs.Pages.{paged, paged-none, paged-more, paged-short, paged-as}
+use Rattle.report.proofs.Pages.{paged-none, paged-more, paged-short, paged-as, paged-told}
 
 -- ---- the header's numbers
 
@@ -46,7 +45,9 @@ module _ (ys : List ℕ) where
 
 ask-room : (ys : List ℕ) (i room : ℕ) → sheetRefusal ys ≡ 0 → i < askCount ys → room ≡ coords ys → oneAskRefusal ys i room ≡ 0
 unfolding oneAskRefusal
-ask-room ys i room e l r = else-none e (firstOf (refuse17 (askCount ys) i ∷ refuse5 (coords ys) room ∷ [])) ∙ rw (lt-leb (askCount ys) i l, eq-eqb room (coords ys) r)
+ask-room ys i room e l r =
+    else-none e (firstOf (refuse17 (askCount ys) i ∷ refuse5 (coords ys) room ∷ []))
+    ∙ rw (lt-leb (askCount ys) i l, eq-eqb room (coords ys) r)
 
 module _ {ys : List ℕ} {n d : ℕ} {vectors : List ℤ} (h : SheetGiven ys n d vectors) (i : ℕ) (l : i < askCount ys) (query : List ℤ) (q : length query ≡ d) where
   nothing : oneAskRefusal ys i (length query) ≡ 0
@@ -58,15 +59,18 @@ module _ {ys : List ℕ} {n d : ℕ} {vectors : List ℤ} (h : SheetGiven ys n d
       let f : refused r ≡ gives (numbersOf (askNumbers ys i)) = e ∙ outcome-gives nothing (numbersOf (askNumbers ys i)) in
       let z : _≡_ {A = ℕ} 0 1 = cc in omega arith
 
-  pub ask-read : (s w k t : ℕ) (query′ : List ℤ) (table : List ℕ) → gives (record { start = s; width = w; k = k; threshold = t }) ≡ askAnswer ys i query → query′ ≡ queryAfter ys i query → ask n d vectors table query′ s t w k ≡ askOf ys table i
+  pub ask-read :
+      (s w k t : ℕ) (query′ : List ℤ) (table : List ℕ) →
+      gives (record { start = s; width = w; k = k; threshold = t }) ≡ askAnswer ys i query → query′ ≡ queryAfter ys i query →
+      ask n d vectors table query′ s t w k ≡ askOf ys table i
   unfolding askAnswer queryAfter askOf numbersOf
   ask-read s w k t query′ table e f =
-      let g : _≡_ {A = Outcome Numbers} (gives (record { start = s; width = w; k = k; threshold = t })) (gives (numbersOf (askNumbers ys i))) = e ∙ outcome-gives nothing (numbersOf (askNumbers ys i)) in
-      let m : _≡_ {A = Numbers} (record { start = s; width = w; k = k; threshold = t }) (numbersOf (askNumbers ys i)) = cc in
-      let es : s ≡ getD (askNumbers ys i) 0 0 = ap (λ (x : Numbers). x .start) m in
-      let ew : w ≡ getD (askNumbers ys i) 1 0 = ap (λ (x : Numbers). x .width) m in
-      let ek : k ≡ getD (askNumbers ys i) 2 0 = ap (λ (x : Numbers). x .k) m in
-      let et : t ≡ getD (askNumbers ys i) 3 0 = ap (λ (x : Numbers). x .threshold) m in
+      let numbers : Numbers = record { start = s; width = w; k = k; threshold = t } in
+      let m : numbersOf (askNumbers ys i) ≡ numbers = outcome-value (oneAskRefusal ys i (length query)) (numbersOf (askNumbers ys i)) numbers (sym e) in
+      let es : getD (askNumbers ys i) 0 0 ≡ s = ap (λ (x : Numbers). x .start) m in
+      let ew : getD (askNumbers ys i) 1 0 ≡ w = ap (λ (x : Numbers). x .width) m in
+      let ek : getD (askNumbers ys i) 2 0 ≡ k = ap (λ (x : Numbers). x .k) m in
+      let et : getD (askNumbers ys i) 3 0 ≡ t = ap (λ (x : Numbers). x .threshold) m in
       let eq : query′ ≡ askQuery ys i = f ∙ after-new nothing query (askQuery ys i) in
       rw (h .n-is, h .d-is, h .vectors-are, eq, es, ew, ek, et)
 
@@ -77,11 +81,15 @@ module _ (ys table : List ℕ) where
   unfolding asksLines
   asks-none at old l = paged-none at old l
 
-  pub asks-next : (i : ℕ) {at end : ℕ} {old mid new : List ℕ} {r r′ : Placed} → Paged at (asksLines ys table i) old mid (End end) → Paged end (linesOf i (askOf ys table i)) mid new r → r ≡ r′ → Paged at (asksLines ys table (i + 1)) old new r′
+  pub asks-next :
+      (i : ℕ) {at end : ℕ} {old mid new : List ℕ} {r r′ : Placed} → Paged at (asksLines ys table i) old mid (End end) →
+      Paged end (linesOf i (askOf ys table i)) mid new r → r ≡ r′ → Paged at (asksLines ys table (i + 1)) old new r′
   unfolding asksLines
-  asks-next i {at} {end} {old} {mid} {new} x y e = rw add-one (subst (λ (p : Placed). Paged at (asksLines ys table i ++ linesOf i (askOf ys table i)) old new p) e (paged-more x y))
+  asks-next i x y e = rw add-one (paged-told e (paged-more x y))
 
-  pub asks-short : (asks j : ℕ) {at : ℕ} {old mid : List ℕ} → j ≤ asks → Paged at (asksLines ys table j) old mid Short → Paged at (asksLines ys table asks) old mid Short
+  pub asks-short :
+      (asks j : ℕ) {at : ℕ} {old mid : List ℕ} → j ≤ asks → Paged at (asksLines ys table j) old mid Short →
+      Paged at (asksLines ys table asks) old mid Short
   unfolding asksLines
   asks-short zero j {at} {old} {mid} l x = let e : j ≡ 0 = omega arith in subst (λ (m : ℕ). Paged at (asksLines ys table m) old mid Short) e x
   asks-short (suc asks) j {at} {old} {mid} l x =
@@ -98,7 +106,8 @@ vectors-room ys room e r = else-none e (firstOf (refuse3 (points ys) (coords ys)
 
 build-room : (n d vectors table : ℕ) → 1 ≤ n → n ≤ 128 → 1 ≤ d → d ≤ 64 → vectors ≡ n * d → table ≡ n * n → buildRefusal n d vectors table ≡ 0
 unfolding buildRefusal
-build-room n d vectors table n1 n2 d1 d2 v t = rw (le-ltb n 1 n1, le-ltb 128 n n2, le-ltb d 1 d1, le-ltb 64 d d2, eq-eqb vectors (n * d) v, eq-eqb table (n * n) t)
+build-room n d vectors table n1 n2 d1 d2 v t =
+    rw (le-ltb n 1 n1, le-ltb 128 n n2, le-ltb d 1 d1, le-ltb 64 d d2, eq-eqb vectors (n * d) v, eq-eqb table (n * n) t)
 
 module _ {ys : List ℕ} {n d : ℕ} {vectors : List ℤ} (h : SheetGiven ys n d vectors) where
   pub set-read : (buffer buffer′ : List ℤ) → length buffer ≡ n * d → buffer′ ≡ vectorsAfter ys buffer → SheetGiven ys n d buffer′
@@ -110,7 +119,9 @@ module _ {ys : List ℕ} {n d : ℕ} {vectors : List ℤ} (h : SheetGiven ys n d
     vectors-are = e ∙ after-new (vectors-room ys (length buffer) (h .readable) (rw (← (h .n-is), ← (h .d-is)) l)) buffer (vectorsOf ys);
   }
 
-  pub table-built : (table table′ : List ℕ) → length table ≡ n * n → table′ ≡ tableAfter n d vectors table → table′ ≡ tableOf (apart (coords ys) (vectorsOf ys)) (points ys)
+  pub table-built :
+      (table table′ : List ℕ) → length table ≡ n * n → table′ ≡ tableAfter n d vectors table →
+      table′ ≡ tableOf (apart (coords ys) (vectorsOf ys)) (points ys)
   unfolding tableAfter
   table-built table table′ l e =
       e
@@ -134,7 +145,9 @@ module _ {ys : List ℕ} {n d : ℕ} {vectors : List ℤ} (h : SheetGiven ys n d
 
 -- ---- the whole
 
-pub printed-set : (ys : List ℕ) → sheetRefusal ys ≡ 0 → printed ys ≡ setLine (points ys) (coords ys) (askCount ys) ++ asksLines ys (tableOf (apart (coords ys) (vectorsOf ys)) (points ys)) (askCount ys)
+pub printed-set :
+    (ys : List ℕ) → sheetRefusal ys ≡ 0 →
+    printed ys ≡ setLine (points ys) (coords ys) (askCount ys) ++ asksLines ys (tableOf (apart (coords ys) (vectorsOf ys)) (points ys)) (askCount ys)
 unfolding printed
 printed-set ys e = rw (printed, e)
 
@@ -147,11 +160,6 @@ module _ (ys : List ℕ) where
   unfolding outcome
   refused-by r zero x e q = let z : _≡_ {A = ℕ} 0 1 = cc in absurd (omega arith)
   refused-by r (suc v) x e q = let s : suc v ≡ r = cc in printed-refused ys v e ∙ ap refusedLine s
-
-  given-by : (x y : Header) (v : ℕ) → gives x ≡ outcome v y → (v ≡ 0) × (x ≡ y)
-  unfolding outcome
-  given-by x y zero q = (refl, cc)
-  given-by x y (suc v) q = let z : _≡_ {A = ℕ} 0 1 = cc in absurd (omega arith)
 
   -- the line of a refused sheet, whose number the code has by another name
   pub sheet-refused : (r q : ℕ) → refused r ≡ headerAnswer ys → q ≡ r → refusedLine q ≡ printed ys
@@ -167,22 +175,30 @@ module _ (ys : List ℕ) where
   pub sheet-headed : (n d c asks : ℕ) → gives (record { n = n; d = d; c = c; asks = asks }) ≡ headerAnswer ys → Headed n d asks
   unfolding headerAnswer
   sheet-headed n d c asks e =
-      let g = given-by (record { n = n; d = d; c = c; asks = asks }) _ (sheetRefusal ys) e in
-      let en : n ≡ points ys = ap (λ (x : Header). x .n) (g .1) in
-      let ed : d ≡ coords ys = ap (λ (x : Header). x .d) (g .1) in
+      let header : Header = record { n = n; d = d; c = c; asks = asks } in
+      let same = outcome-value (sheetRefusal ys) _ header (sym e) in
+      let en : n ≡ points ys = ap (λ (x : Header). x .n) (sym same) in
+      let ed : d ≡ coords ys = ap (λ (x : Header). x .d) (sym same) in
       record {
-        given = record { readable = g .0; n-is = en; d-is = ed; vectors-are = refl };
-        asks-are = ap (λ (x : Header). x .asks) (g .1);
+        given = record { readable = outcome-none (sheetRefusal ys) _ header (sym e); n-is = en; d-is = ed; vectors-are = refl };
+        asks-are = ap (λ (x : Header). x .asks) (sym same);
         few-points = rw en (points-small ys .1);
         few-coordinates = rw ed (coords-small ys .1);
       }
 
 -- the `set` line, and then the asks' lines on the set's own table
-pub whole-set : {ys table old mid new : List ℕ} {n d asks next : ℕ} {r : Placed} → SheetGiven ys n d (vectorsOf ys) → asks ≡ askCount ys → table ≡ tableOf (apart (coords ys) (vectorsOf ys)) (points ys) → Paged 0 (setLine n d asks) old mid (End next) → Paged next (asksLines ys table asks) mid new r → Paged 0 (printed ys) old new r
+pub whole-set :
+    {ys table old mid new : List ℕ} {n d asks next : ℕ} {r : Placed} → SheetGiven ys n d (vectorsOf ys) → asks ≡ askCount ys →
+    table ≡ tableOf (apart (coords ys) (vectorsOf ys)) (points ys) → Paged 0 (setLine n d asks) old mid (End next) →
+    Paged next (asksLines ys table asks) mid new r → Paged 0 (printed ys) old new r
 whole-set {ys} {table} {n = n} {d = d} {asks = asks} h a t x y =
-    paged-as (setLine n d asks ++ asksLines ys table asks) (printed ys) (rw (h .n-is, h .d-is, a, t) (sym (printed-set ys (h .readable)))) (paged-more x y)
+    let same : setLine n d asks ++ asksLines ys table asks ≡ printed ys = rw (h .n-is, h .d-is, a, t) (sym (printed-set ys (h .readable))) in
+    paged-as (setLine n d asks ++ asksLines ys table asks) (printed ys) same (paged-more x y)
 
-pub whole-short : {ys old mid : List ℕ} {n d asks : ℕ} → SheetGiven ys n d (vectorsOf ys) → asks ≡ askCount ys → Paged 0 (setLine n d asks) old mid Short → Paged 0 (printed ys) old mid Short
+pub whole-short :
+    {ys old mid : List ℕ} {n d asks : ℕ} → SheetGiven ys n d (vectorsOf ys) → asks ≡ askCount ys → Paged 0 (setLine n d asks) old mid Short →
+    Paged 0 (printed ys) old mid Short
 whole-short {ys} {n = n} {d = d} {asks = asks} h a x =
     let table = tableOf (apart (coords ys) (vectorsOf ys)) (points ys) in
-    paged-as (setLine n d asks ++ asksLines ys table asks) (printed ys) (rw (h .n-is, h .d-is, a) (sym (printed-set ys (h .readable)))) (paged-short x (asksLines ys table asks))
+    let same : setLine n d asks ++ asksLines ys table asks ≡ printed ys = rw (h .n-is, h .d-is, a) (sym (printed-set ys (h .readable))) in
+    paged-as (setLine n d asks ++ asksLines ys table asks) (printed ys) same (paged-short x (asksLines ys table asks))

@@ -13,71 +13,62 @@ use Rattle.magpiehinge.proofs.read_all.Reads as read-all-reads
 use Rattle.report.proofs.page.Reads as page-reads
 use Rattle.report.proofs.print.Reads as print-reads
 
--- src/main.rt:46:42
 slice-aggregate-read-all : tie.Need-slice-aggregate-read-all
 slice-aggregate-read-all c = search needs
 
--- src/main.rt:46:33
 read-all-requires : tie.Need-read-all-requires
 read-all-requires c κs = search needs
 
--- src/main.rt:46:23
 enum-known-length : tie.Need-enum-known-length
 enum-known-length c = search needs
 
--- src/main.rt:47:9
 enum-told : tie.Need-enum-told
 enum-told c = search needs
 
--- src/main.rt:47:9
 returns : tie.Need-returns
 returns c = search needs
 
--- src/main.rt:49:22
 page-requires : tie.Need-page-requires
 page-requires c κs = search needs
 
--- src/main.rt:50:42
 array-share-prefix-sheet : tie.Need-array-share-prefix-sheet
-array-share-prefix-sheet c = read-within (c .before .before .before .before .before .read-all .last .0) (c .before .before .before .before .before .read-all .ensures) (c .before .before .length .given .1)
+array-share-prefix-sheet c =
+    let read = c .before .before .before .before .before .read-all in
+    read-within (read .last .0) (read .ensures) (c .before .before .length .given .1)
 
--- src/main.rt:50:42
 slice-aggregate-print : tie.Need-slice-aggregate-print
-slice-aggregate-print c = sym (length-take-le _ _ (read-within (c .before .before .before .before .before .before .read-all .last .0) (c .before .before .before .before .before .before .read-all .ensures) (c .before .before .before .length .given .1)))
+slice-aggregate-print c =
+    let read = c .before .before .before .before .before .before .read-all in
+    sym (length-take-le _ _ (read-within (read .last .0) (read .ensures) (c .before .before .before .length .given .1)))
 
--- src/main.rt:50:60
 slice-aggregate-print-2 : tie.Need-slice-aggregate-print-2
 slice-aggregate-print-2 c = search needs
 
--- src/main.rt:50:28
 print-requires : tie.Need-print-requires
 print-requires c κs = search needs
 
--- src/main.rt:50:21
 enum-known-end : tie.Need-enum-known-end
 enum-known-end c = search needs
 
--- src/main.rt:51:9
 enum-told-2 : tie.Need-enum-told-2
 enum-told-2 c = search needs
 
--- src/main.rt:51:9
 returns-2 : tie.Need-returns-2
 returns-2 c = search needs
 
--- src/main.rt:53:34
 array-share-prefix-output : tie.Need-array-share-prefix-output
-array-share-prefix-output c = paged-front (paged _ _ _ _ refl (sym (c .before .end .given .1) ∙ c .before .before .before .before .print .ensures .0, c .before .before .before .before .print .ensures .1)) .0
+array-share-prefix-output c =
+    let e = c .before .before .before .before .print .ensures in
+    paged-front (paged _ _ _ _ refl (sym (c .before .end .given .1) ∙ e .0, e .1)) .0
 
--- src/main.rt:53:34
 slice-aggregate-write-all : tie.Need-slice-aggregate-write-all
-slice-aggregate-write-all c = sym (length-take-le _ _ (paged-front (paged _ _ _ _ refl (sym (c .before .before .end .given .1) ∙ c .before .before .before .before .before .print .ensures .0, c .before .before .before .before .before .print .ensures .1)) .0))
+slice-aggregate-write-all c =
+    let e = c .before .before .before .before .before .print .ensures in
+    sym (length-take-le _ _ (paged-front (paged _ _ _ _ refl (sym (c .before .before .end .given .1) ∙ e .0, e .1)) .0))
 
--- src/main.rt:53:5
 write-all-requires : tie.Need-write-all-requires
 write-all-requires c κs = search needs
 
--- src/main.rt:44:1
 returns-3 : tie.Need-returns-3
 returns-3 c = search needs
 

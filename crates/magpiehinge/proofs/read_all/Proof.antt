@@ -1,11 +1,10 @@
 -- `magpiehinge::read_all` meets its contract. Assumes nothing.
-use mathlib.Core.Path.{ap, _∙_}
 use Rattle.magpiehinge.specs.Reading.{lengthOf}
 use Rattle.magpiehinge.proofs.Filling.{rest-long}
 use native.Mathlib.Omega.{arith}
 use borrow.Author.Needs.{needs}
-use Prim.Native.Nat.{_-_, _≤_}
-use mathlib.Core.Path.{_≡_}
+use Prim.Native.Nat.{_+_, _-_, _≤_}
+use mathlib.Core.Path.{_≡_, ap, _∙_}
 use lib.ListN.{length}
 use Rattle.magpiehinge.proofs.read_all.Statement.{statement}
 use Rattle.magpiehinge.proofs.read_all.Tie as tie
@@ -19,67 +18,69 @@ Inv-loop buffer₀ done₀ buffer done = (done ≤ length buffer) × (length buf
 abbrev μ-loop : tie.MeasureT-loop
 μ-loop buffer₀ done₀ buffer done = length buffer₀ - done
 
--- src/main.rt:31:5
+-- what one read lends is what is left of the buffer
+rest :
+    (c : tie.After-buffer Inv-loop μ-loop) →
+    let turn = c .before .before .before .before .loop in
+    turn .done + length (c .before .read-some .last .0) ≡ length (turn .buffer)
+rest c =
+    let turn = c .before .before .before .before .loop in
+    rest-long (turn .done) (turn .buffer) (c .before .read-some .last .0) (turn .inv .0) (c .buffer .given .0)
+
 loop-holds : tie.Need-loop-holds Inv-loop μ-loop
 loop-holds c = search needs
 
--- src/main.rt:32:45
 sub-read-some : tie.Need-sub-read-some Inv-loop μ-loop
 sub-read-some c = search needs
 
--- src/main.rt:32:45
 part-read-some-start : tie.Need-part-read-some-start Inv-loop μ-loop
 part-read-some-start c = search needs
 
--- src/main.rt:32:45
 part-read-some-end : tie.Need-part-read-some-end Inv-loop μ-loop
 part-read-some-end c = search needs
 
--- src/main.rt:32:35
 read-some-requires : tie.Need-read-some-requires Inv-loop μ-loop
 read-some-requires c κs = search needs
 
--- src/main.rt:32:27
 enum-known-more : tie.Need-enum-known-more Inv-loop μ-loop
 enum-known-more c = search needs
 
--- src/main.rt:33:13
 enum-told : tie.Need-enum-told Inv-loop μ-loop
 enum-told c = search needs
 
--- src/main.rt:33:13
 same-length : tie.Need-same-length Inv-loop μ-loop
 same-length c = c .before .before .before .buffer .given .1 ∙ c .before .before .before .before .before .before .before .loop .inv .1
 
--- src/main.rt:33:13
 returns : tie.Need-returns Inv-loop μ-loop
 returns c = omega arith
 
--- src/main.rt:36:13
 same-length-2 : tie.Need-same-length-2 Inv-loop μ-loop
-same-length-2 c = c .before .before .before .before .before .buffer .given .1 ∙ c .before .before .before .before .before .before .before .before .before .loop .inv .1
+same-length-2 c = let got = c .before .before .before .before .before in got .buffer .given .1 ∙ got .before .before .before .before .loop .inv .1
 
--- src/main.rt:36:13
 returns-2 : tie.Need-returns-2 Inv-loop μ-loop
-returns-2 c = omega (arith, c .before .before .before .before .before .buffer .given .1, c .before .before .before .before .before .before .before .before .before .loop .inv .0)
+returns-2 c = let got = c .before .before .before .before .before in omega (arith, got .buffer .given .1, got .before .before .before .before .loop .inv .0)
 
--- src/main.rt:38:9
 add-done : tie.Need-add-done Inv-loop μ-loop
-add-done c = omega (arith, rest-long (c .before .before .before .before .before .before .before .before .before .loop .done) (c .before .before .before .before .before .before .before .before .before .loop .buffer) (c .before .before .before .before .before .before .read-some .last .0) (c .before .before .before .before .before .before .before .before .before .loop .inv .0) (c .before .before .before .before .before .buffer .given .0), c .before .before .before .before .before .before .read-some .ensures, ap lengthOf (c .before .before .more .given .1))
+add-done c =
+    let got = c .before .before .before .before .before in
+    omega (arith, rest got, got .before .read-some .ensures, ap lengthOf (c .before .before .more .given .1))
 
--- src/main.rt:31:5
 loop-less : tie.Need-loop-less Inv-loop μ-loop
-loop-less c = omega (arith, rest-long (c .before .before .before .before .before .before .before .before .before .loop .done) (c .before .before .before .before .before .before .before .before .before .loop .buffer) (c .before .before .before .before .before .before .read-some .last .0) (c .before .before .before .before .before .before .before .before .before .loop .inv .0) (c .before .before .before .before .before .buffer .given .0), c .before .before .before .before .before .before .read-some .ensures, ap lengthOf (c .before .before .more .given .1), c .before .before .before .before .before .before .before .before .before .loop .inv .1, c .if1 .left)
+loop-less c =
+    let got = c .before .before .before .before .before in
+    let more = ap lengthOf (c .before .before .more .given .1) in
+    omega (arith, rest got, got .before .read-some .ensures, got .before .before .before .before .loop .inv .1, c .if1 .left)
 
--- src/main.rt:31:5
 loop-again : tie.Need-loop-again Inv-loop μ-loop
-loop-again c = (omega (arith, rest-long (c .before .before .before .before .before .before .before .before .before .loop .done) (c .before .before .before .before .before .before .before .before .before .loop .buffer) (c .before .before .before .before .before .before .read-some .last .0) (c .before .before .before .before .before .before .before .before .before .loop .inv .0) (c .before .before .before .before .before .buffer .given .0), c .before .before .before .before .before .before .read-some .ensures, ap lengthOf (c .before .before .more .given .1), c .before .before .before .before .before .buffer .given .1), c .before .before .before .before .before .buffer .given .1 ∙ c .before .before .before .before .before .before .before .before .before .loop .inv .1)
+loop-again c =
+    let got = c .before .before .before .before .before in
+    let more = ap lengthOf (c .before .before .more .given .1) in
+    let same = got .buffer .given .1 in
+    (omega (arith, rest got, got .before .read-some .ensures), same ∙ got .before .before .before .before .loop .inv .1)
 
--- src/main.rt:27:1
 same-length-3 : tie.Need-same-length-3 Inv-loop μ-loop
 same-length-3 c = c .before .loop .inv .1
 
--- src/main.rt:27:1
 returns-3 : tie.Need-returns-3 Inv-loop μ-loop
 returns-3 c = c .before .loop .inv .0
 

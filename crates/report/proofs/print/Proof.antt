@@ -9,52 +9,48 @@ use Rattle.report.proofs.print.Tie as tie
 use Rattle.report.proofs.print.Reads as reads
 use Rattle.report.proofs.print.Lts as lts
 use Rattle.lines.proofs.place.Reads as place-reads
-use Rattle.report.proofs.fill.Reads as fill-reads
+use Rattle.report.proofs.whole.fill.Reads as fill-reads
 use Rattle.report.proofs.page.Reads as page-reads
 
--- src/lib.rt:233:21
 page-requires : tie.Need-page-requires
 page-requires c κs = search needs
 
--- src/lib.rt:234:40
 slice-aggregate-fill : tie.Need-slice-aggregate-fill
 slice-aggregate-fill c = search needs
 
--- src/lib.rt:234:28
 fill-requires : tie.Need-fill-requires
 fill-requires c κs = search needs
 
--- src/lib.rt:234:21
 enum-known-end : tie.Need-enum-known-end
 enum-known-end c = search needs
 
--- src/lib.rt:235:9
 enum-told : tie.Need-enum-told
 enum-told c = search needs
 
--- src/lib.rt:235:9
 returns : tie.Need-returns
-returns c = absurd (never-short _ (c .before .before .before .before .before .page .ensures .0) (paged-told (c .enum-told .given .1) (c .before .before .before .fill .ensures)))
+returns c =
+    let filled = c .before .before .before in
+    absurd (never-short _ (filled .before .before .page .ensures .0) (paged-told (c .enum-told .given .1) (filled .fill .ensures)))
 
--- src/lib.rt:237:18
 array-share-prefix-lines : tie.Need-array-share-prefix-lines
 array-share-prefix-lines c = paged-front (paged-told (c .before .end .given .1) (c .before .before .before .before .fill .ensures)) .0
 
--- src/lib.rt:237:18
 slice-aggregate-place : tie.Need-slice-aggregate-place
-slice-aggregate-place c = sym (length-take-le _ _ (paged-front (paged-told (c .before .before .end .given .1) (c .before .before .before .before .before .fill .ensures)) .0))
+slice-aggregate-place c =
+    let end = c .before .before in
+    sym (length-take-le _ _ (paged-front (paged-told (end .end .given .1) (end .before .before .before .fill .ensures)) .0))
 
--- src/lib.rt:237:5
 place-requires : tie.Need-place-requires
 place-requires c κs = search needs
 
--- src/lib.rt:229:1
 same-length : tie.Need-same-length
 same-length c = search needs
 
--- src/lib.rt:229:1
 returns-2 : tie.Need-returns-2
-returns-2 c = placed-as _ _ _ _ (paged-front (paged-told (c .before .before .before .before .before .before .end .given .1) (c .before .before .before .before .before .before .before .before .before .fill .ensures)) .1) (c .before .before .place .ensures)
+returns-2 c =
+    let end = c .before .before .before .before .before .before in
+    let front = paged-front (paged-told (end .end .given .1) (end .before .before .before .fill .ensures)) in
+    placed-as _ _ _ _ (front .1) (c .before .before .place .ensures)
 
 pub print-spec : {M : Type 1} → statement M
 print-spec =

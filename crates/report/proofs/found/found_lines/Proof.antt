@@ -1,34 +1,28 @@
--- `report::found_lines` meets its contract. Assumes nothing.
+-- `report::found::found_lines` meets its contract. Assumes nothing.
 use mathlib.Core.Path.{sym}
 use lib.Seq.{length-take-le}
 use borrow.Author.Needs.{needs}
-use Rattle.report.proofs.found_lines.Statement.{statement}
-use Rattle.report.proofs.found_lines.Tie as tie
-use Rattle.report.proofs.found_lines.Reads as reads
-use Rattle.report.proofs.found_lines.Lts as lts
+use Rattle.report.proofs.found.found_lines.Statement.{statement}
+use Rattle.report.proofs.found.found_lines.Tie as tie
+use Rattle.report.proofs.found.found_lines.Reads as reads
+use Rattle.report.proofs.found.found_lines.Lts as lts
 use Rattle.lines.proofs.answer_lines.Reads as answer-lines-reads
 
--- src/lib.rt:51:9
 slice-aggregate-answer-lines : tie.Need-slice-aggregate-answer-lines
 slice-aggregate-answer-lines c = sym (length-take-le _ _ (c .before .before .before .before .before .pre .0))
 
--- src/lib.rt:52:9
 slice-aggregate-answer-lines-2 : tie.Need-slice-aggregate-answer-lines-2
 slice-aggregate-answer-lines-2 c = sym (length-take-le _ _ (c .before .before .before .before .before .before .pre .1))
 
--- src/lib.rt:53:9
 slice-aggregate-answer-lines-3 : tie.Need-slice-aggregate-answer-lines-3
 slice-aggregate-answer-lines-3 c = sym (length-take-le _ _ (c .before .before .before .before .before .before .before .pre .2))
 
--- src/lib.rt:46:5
 answer-lines-requires : tie.Need-answer-lines-requires
 answer-lines-requires c κs = search needs
 
--- src/lib.rt:31:1
 same-length : tie.Need-same-length
 same-length c = search needs
 
--- src/lib.rt:31:1
 returns : tie.Need-returns
 returns c = search needs
 
