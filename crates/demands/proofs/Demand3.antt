@@ -1,11 +1,10 @@
 -- Demand 3, of what the search's entry returns and writes. Assumes nothing.
-use Prim.Native.Nat.{ℕ, zero, suc, _≤_, _<_, min}
-use native.Mathlib.Nat.{not-suc-le-zero}
+use Prim.Native.Nat.{ℕ, _≤_, _<_, min}
 use native.Mathlib.Omega.{arith}
 use mathlib.Core.Path.{_≡_, refl, sym, ap, _∙_}
 use mathlib.Core.Logic.{_≢_}
 use mathlib.Core.Bool.{Bool, true}
-use mathlib.Core.List.{List, [], _∷_, _++_, map}
+use mathlib.Core.List.{List, _++_, map}
 use lib.Dec.{eqb}
 use lib.IntN.{ℤ}
 use lib.ListN.{length, getD, take, drop, length-append, length-map, List·getD-append}
@@ -24,13 +23,15 @@ use Rattle.laws.proofs.Demand3.{wider, exact}
 use Rattle.laws.proofs.Tests.{count-all}
 use Rattle.laws.proofs.Refusals.{after-new, outcome-none, outcome-value}
 use Rattle.laws.proofs.Keyed.{keyed-ordered, keyed-le}
+use Rattle.laws.proofs.Line.{getD-map}
 use Rattle.laws.proofs.Distances.{apart-symmetric}
 use Rattle.laws.proofs.Table.{own-closing}
 use Rattle.search.specs.declared.Counts.{Counts}
 use Rattle.search.specs.declared.Searched.{Searched}
 use Rattle.search.specs.declared.Searched.the-variants.{Refused, Done}
 use Rattle.search.specs.Answer.{told}
-use Rattle.search.proofs.Finish.{SearchOk, search-ok, small-ids}
+use Rattle.search.proofs.Finish.{SearchOk, search-ok}
+use Rattle.search.proofs.OffLine.{small-ids}
 use Rattle.demands.specs.Calls.{SearchCall}
 use Rattle.demands.specs.Demand3.{widened, Begins, SameOrEarlier, Wider, Exact}
 
@@ -69,11 +70,6 @@ over-take l old new m e q = rw q (take-at l (drop (length l) old) m (sym e))
 over-at : (l old new : List ℕ) (j : ℕ) → j < length l → new ≡ over l old → getD new j 0 ≡ getD l j 0
 unfolding over
 over-at l old new j h q = rw q (List·getD-append l (drop (length l) old) 0 j h)
-
-getD-map : (f : ℕ → ℕ) (l : List ℕ) (j : ℕ) → j < length l → getD (map f l) j 0 ≡ f (getD l j 0)
-getD-map f [] j h = absurd (not-suc-le-zero h)
-getD-map f (x ∷ l) zero h = refl
-getD-map f (x ∷ l) (suc j) h = getD-map f l j (omega arith)
 
 module _ {a : Ask} {c : Counts} {ids distances trail ids′ distances′ trail′ : List ℕ} (g : Gave a c ids distances trail ids′ distances′ trail′) where
   -- the answer at a place: its id, below 128, and its squared distance

@@ -14,7 +14,8 @@ use Rattle.rules.specs.Sheet.{numberBits, askBits, numbersIn, allNumbers, allQu
 use Rattle.rules.specs.Outcome.{orElse}
 use Rattle.rules.specs.Refusals.{outside, askRefusal, asksRefusal}
 use Rattle.laws.proofs.Refusals.{else-both, skipped, inside}
-use Rattle.laws.proofs.Bits.{length-bits, number-bits-lt, bits-of-number, taken-small, length-valueBits, length-values, values-back, valueBits-back, values-fit, fit-take, fit-drop, fit-append}
+use Rattle.laws.proofs.Bits.{length-bits, number-bits-lt, bits-of-number, taken-small}
+use Rattle.laws.proofs.Bits.{length-valueBits, length-values, values-back, valueBits-back, values-fit, fit-take, fit-drop, fit-append}
 
 -- the field of w bits in front: its number, and what follows it
 pub front : (w v : ℕ) (rest : List Bool) → v < 2 ^ w → number (take w (bits w v ++ rest)) ≡ v
@@ -249,7 +250,8 @@ module _ (d c : ℕ) where
   unfolding allQueries
   length-allQueries zero bs = omega arith
   length-allQueries (suc a) bs =
-      rw (length-append (values c d (drop 36 bs)) (allQueries d c a (drop (36 + d * c) bs)), length-values, length-allQueries a (drop (36 + d * c) bs)) (omega arith)
+      let rest = drop (36 + d * c) bs in
+      rw (length-append (values c d (drop 36 bs)) (allQueries d c a rest), length-values, length-allQueries a rest) (omega arith)
 
   -- what was written is read back, whatever follows
   pub numbers-back : (a : ℕ) (ns : List ℕ) (qs : List ℤ) (rest : List Bool) → length ns ≡ 4 * a → length qs ≡ a * d → asksRefusal a ns ≡ 0
@@ -298,7 +300,8 @@ module _ (d c : ℕ) where
         let qs = allQueries d c a rest in
         let l : a * (36 + d * c) ≤ length rest = rw length-drop (omega arith) in
         let e : suc a * (36 + d * c) ≡ 36 + (d * c + a * (36 + d * c)) = omega arith in
-        ap₂ (λ (x : List ℕ) (y : List ℤ). numberBits x ++ (valueBits c (take d y) ++ askBits d c a (drop 4 x) (drop d y))) (allNumbers-suc a bs) (allQueries-suc a bs)
+        ap₂ (λ (x : List ℕ) (y : List ℤ). numberBits x ++ (valueBits c (take d y) ++ askBits d c a (drop 4 x) (drop d y)))
+        (allNumbers-suc a bs) (allQueries-suc a bs)
         ∙ rw (
           numberBits-front bs ns,
           numbers-again bs (omega arith),

@@ -3,7 +3,7 @@ use mathlib.Core.Path.{_≡_, refl, sym, ap, ap₂, _∙_}
 use mathlib.Core.Bool.{Bool, true, false}
 use mathlib.Core.List.{List, [], _∷_, _++_, append-assoc}
 use Prim.Native.Nat.{ℕ, zero, suc, _+_, _-_, _*_, _/_, _%_, _^_, _≤_, _<_}
-use native.Mathlib.Nat.{lt-of-lt-of-le, mod-lt, mod-one, mod-eq-of-lt, zero-lt-suc, mul-add-mod-self-right, add-mul-div-right, div-add-mod', pow-suc, add-comm}
+use native.Mathlib.Nat.{lt-of-lt-of-le, mod-lt, mod-one, mod-eq-of-lt, zero-lt-suc, mul-add-mod-self-right, add-mul-div-right, pow-suc, add-comm}
 use native.Mathlib.Numerals.{one-add}
 use native.Mathlib.Omega.{arith}
 use lib.ListN.{length, take, drop, getD, length-append, length-replicate, length-take, length-drop}
@@ -98,10 +98,6 @@ bits-number (b ∷ bs) =
 
 pub bits-of-number : (w : ℕ) (bs : List Bool) → length bs ≡ w → bits w (number bs) ≡ bs
 bits-of-number w bs e = rw (← e) (bits-number bs)
-
--- only the w low digits matter
-pub bits-mod : (w v : ℕ) → bits w (v % 2 ^ w) ≡ bits w v
-bits-mod w v = sym (bits-above w (v / 2 ^ w) (v % 2 ^ w)) ∙ ap (bits w) (div-add-mod' v (2 ^ w))
 
 -- bits after bits
 pub number-append : (xs ys : List Bool) → number (xs ++ ys) ≡ number xs * 2 ^ length ys + number ys
@@ -225,7 +221,8 @@ module _ (c : ℕ) (c-0 : 1 ≤ c) where
   unfolding allFit values
   values-fit zero bs = refl
   values-fit (suc m) bs =
-      and-i (fits c (signed c (number (take c bs)))) (allFit c (values c m (drop c bs))) (signed-fits c (number (take c bs)) c-0 (taken-small c bs)) (values-fit m (drop c bs))
+      and-i (fits c (signed c (number (take c bs)))) (allFit c (values c m (drop c bs)))
+      (signed-fits c (number (take c bs)) c-0 (taken-small c bs)) (values-fit m (drop c bs))
 
 -- ---- values that fit, in parts
 

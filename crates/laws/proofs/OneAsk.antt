@@ -1,5 +1,5 @@
 -- One ask of a sheet is that part of the sheet's contents. Assumes nothing.
-use mathlib.Core.Path.{_≡_, sym, ap, ap₂, _∙_}
+use mathlib.Core.Path.{_≡_, sym, ap, _∙_}
 use mathlib.Core.Bool.{Bool}
 use mathlib.Core.List.{List, _++_}
 use Prim.Native.Nat.{ℕ, zero, suc, _+_, _*_, _<_}
@@ -7,11 +7,9 @@ use native.Mathlib.Omega.{arith}
 use lib.ListN.{take, drop}
 use lib.Seq.{take-at, drop-at, drop-drop}
 use Rattle.rules.specs.Bits.{values, unpacked}
-use Rattle.rules.specs.Sheet.{Contents, sheet, numbersIn, allNumbers, allQueries, points, coords, width, askCount, askPlace, askNumbers, askQuery, contentsOf}
+use Rattle.rules.specs.Sheet.{numbersIn, allNumbers, allQueries, points, coords, width, askCount, askPlace, askNumbers, askQuery, contentsOf}
 use Rattle.laws.proofs.Bits.{length-values}
 use Rattle.laws.proofs.Asks.{length-numbersIn, allNumbers-suc, allQueries-suc}
-use Rattle.laws.proofs.Writable.{Writable}
-use Rattle.laws.proofs.RoundTrip.{read-back, asks-back, coords-back}
 
 module _ (d c : ℕ) where
   numbers-part : (i a : ℕ) (bs : List Bool) → i < a → take 4 (drop (4 * i) (allNumbers d c a bs)) ≡ numbersIn (drop (i * (36 + d * c)) bs)
@@ -69,16 +67,3 @@ module _ (ys : List ℕ) (i : ℕ) (h : i < askCount ys) where
   one-query =
       ap (λ (u : List Bool). values (width ys) (coords ys) (drop 36 u)) place
       ∙ sym (queries-part (coords ys) (width ys) i (askCount ys) (drop (askPlace ys 0) (unpacked ys)) h)
-
--- of a written sheet, ask i's numbers and query are the i-th that were given
-module _ (k : Contents) (w : Writable k) (i : ℕ) (h : i < k .asks) where
-  counted : i < askCount (sheet k)
-  counted = rw (asks-back k w) h
-
-  pub numbers-written : askNumbers (sheet k) i ≡ take 4 (drop (4 * i) (k .numbers))
-  numbers-written = one-numbers (sheet k) i counted ∙ ap (λ (x : Contents). take 4 (drop (4 * i) (x .numbers))) (read-back k w)
-
-  pub query-written : askQuery (sheet k) i ≡ take (k .d) (drop (i * k .d) (k .queries))
-  query-written =
-      one-query (sheet k) i counted
-      ∙ ap₂ (λ (d : ℕ) (x : Contents). take d (drop (i * d) (x .queries))) (coords-back k w) (read-back k w)

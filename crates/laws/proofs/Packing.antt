@@ -2,7 +2,7 @@
 use mathlib.Core.Path.{_≡_, refl, ap, ap₂, _∙_}
 use mathlib.Core.Bool.{Bool}
 use mathlib.Core.List.{List, [], _∷_, _++_}
-use Prim.Native.Nat.{ℕ, zero, suc, _+_, _-_, _*_, _<_}
+use Prim.Native.Nat.{ℕ, zero, suc, _+_, _*_}
 use native.Mathlib.Nat.{lt-of-lt-of-le}
 use native.Mathlib.Omega.{arith}
 use lib.ListN.{length, take, drop, length-append, length-take, length-drop, take-append-drop}
@@ -76,7 +76,3 @@ length-bytesOf bs = length-packed (byteCount (length bs)) (filled bs)
 pub unpacked-bytesOf : (bs : List Bool) → unpacked (bytesOf bs) ≡ filled bs
 unfolding bytesOf
 unpacked-bytesOf bs = unpacked-packed (byteCount (length bs)) (filled bs) (length-filled bs)
-
-pub bytesOf-bytes : (bs : List Bool) → Bytes (bytesOf bs)
-unfolding bytesOf
-bytesOf-bytes bs = packed-bytes (byteCount (length bs)) (filled bs)

@@ -7,13 +7,15 @@ use native.Mathlib.Omega.{arith}
 use lib.ListN.{length, take, drop, length-append, length-drop, take-append-drop}
 use lib.Seq.{take-all, drop-at, length-take-le, drop-drop, take-add}
 use Rattle.rules.specs.Bits.{number, zeros, valueBits, unpacked, byteCount, filled, bytesOf, Bytes}
-use Rattle.rules.specs.Sheet.{Contents, headBits, askBits, sheetBits, sheet, bitCount, sheetLength, fieldAt, points, coords, width, askCount, required, filling, vectorsOf, askPlace, allNumbers, allQueries, contentsOf}
+use Rattle.rules.specs.Sheet.{Contents, headBits, askBits, sheetBits, sheet, bitCount, sheetLength}
+use Rattle.rules.specs.Sheet.{fieldAt, points, coords, width, askCount, required, filling, vectorsOf, askPlace, allNumbers, allQueries, contentsOf}
 use Rattle.rules.specs.Refusals.{sheetRefusal, writerRefusal}
 use Rattle.laws.proofs.Bits.{length-valueBits, length-values, values-back, valueBits-back, values-fit, zeros-of-number, length-zeros, number-zeros}
 use Rattle.laws.proofs.Packing.{length-unpacked, packed-unpacked, length-bytesOf, unpacked-bytesOf}
 use Rattle.laws.proofs.Fields.{points-small, coords-small, width-small}
 use Rattle.laws.proofs.Writable.{Writable, not-refused, Readable, readable, read-none}
-use Rattle.laws.proofs.Asks.{row-1, row-2, row-3, row-4, row-past, row-again, length-row, less-one, length-askBits, numbers-back, queries-back, asks-again, asks-fit, queries-fit, length-allNumbers, length-allQueries}
+use Rattle.laws.proofs.Asks.{row-1, row-2, row-3, row-4, row-past, row-again, length-row, less-one}
+use Rattle.laws.proofs.Asks.{length-askBits, numbers-back, queries-back, asks-again, asks-fit, queries-fit, length-allNumbers, length-allQueries}
 
 -- ---- the sheet's length
 
@@ -207,9 +209,10 @@ module _ (ys : List ℕ) (ok : sheetRefusal ys ≡ 0) where
   filling-is : drop (required ys) U ≡ zeros (length ys * 8 - required ys)
   unfolding filling fieldAt
   filling-is =
-      let l : length (drop (required ys) U) ≡ length ys * 8 - required ys = rw (length-drop, length-unpacked) in
-      let a : take (length ys * 8 - required ys) (drop (required ys) U) ≡ drop (required ys) U = take-all (length ys * 8 - required ys) (drop (required ys) U) (omega arith) in
-      zeros-of-number (drop (required ys) U) (ap number (sym a) ∙ p .unfilled) ∙ ap zeros l
+      let left : List Bool = drop (required ys) U in
+      let l : length left ≡ length ys * 8 - required ys = rw (length-drop, length-unpacked) in
+      let a : take (length ys * 8 - required ys) left ≡ left = take-all (length ys * 8 - required ys) left (omega arith) in
+      zeros-of-number left (ap number (sym a) ∙ p .unfilled) ∙ ap zeros l
 
   -- WRITING WHAT WAS READ
   pub write-back : Bytes ys → sheet (contentsOf ys) ≡ ys

@@ -11,7 +11,8 @@ use borrow.Author.Tests.{le-ltb, ltb-false, eq-eqb, not-false}
 use Rattle.rules.specs.Bits.{byteCount, allFit}
 use Rattle.rules.specs.Sheet.{Contents, bitCount, sheetLength, points, coords, width, askCount, required, filling}
 use Rattle.rules.specs.Outcome.{orElse, firstOf}
-use Rattle.rules.specs.Refusals.{outside, differ, refuse1, refuse2, refuse3, refuse5, refuse11, refuse12, refuse13, refuse14, asksRefusal, writerRefusal, sheetRefusal}
+use Rattle.rules.specs.Refusals.{outside, differ, asksRefusal, writerRefusal, sheetRefusal}
+use Rattle.rules.specs.Refusals.{refuse1, refuse2, refuse3, refuse5, refuse11, refuse12, refuse13, refuse14}
 use Rattle.laws.proofs.Tests.{or-off, or-off-r, and-l, and-r}
 use Rattle.laws.proofs.Refusals.{else-both, skipped, inside, alike}
 
@@ -89,7 +90,8 @@ unfolding writerRefusal shapeRefusal
 writable k output e =
     let asks = asksRefusal (k .asks) (k .numbers) in
     let fit = allFit (k .c) (k .vectors) && allFit (k .c) (k .queries) in
-    let p = else-both (shapeRefusal (k .n) (k .d) (k .c) (k .asks) (length (k .vectors)) (length (k .numbers)) (length (k .queries))) (orElse asks (lastOf k output)) e in
+    let shape = shapeRefusal (k .n) (k .d) (k .c) (k .asks) (length (k .vectors)) (length (k .numbers)) (length (k .queries)) in
+    let p = else-both shape (orElse asks (lastOf k output)) e in
     let q = else-both asks (lastOf k output) (p .1) in
     let s = shaped (k .n) (k .d) (k .c) (k .asks) (length (k .vectors)) (length (k .numbers)) (length (k .queries)) (p .0) in
     let x = skipped (not fit) 12 _ (q .1) in

@@ -4,5 +4,6 @@ pub mod Marking
 pub mod Visiting
 pub mod Rounds
 pub mod Filling
-pub mod Asked
+pub mod Starting
+pub mod OffLine
 pub mod Finish
