@@ -2,6 +2,7 @@ pub mod Places
 pub mod Seeing
 pub mod Marking
 pub mod Visiting
+pub mod Choosing
 pub mod Rounds
 pub mod Filling
 pub mod Starting

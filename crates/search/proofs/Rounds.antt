@@ -5,70 +5,24 @@ use native.Mathlib.Omega.{arith}
 use native.Mathlib.Numerals.{add-one}
 use mathlib.Core.Path.{_≡_, refl, sym, ap, _∙_}
 use mathlib.Core.Logic.{⊎-elim}
-use mathlib.Core.Bool.{true, false, cond, not, _&&_}
+use mathlib.Core.Bool.{true, false, not, _&&_}
 use mathlib.Core.Option.{none, some}
 use mathlib.Core.List.{List, [], _∷_, _++_, map}
 use lib.ListN.{length, getD, set, drop, length-append, length-set}
 use lib.Seq.{drop-cons, set-at, append-snoc}
 use lib.Dec.{ltb, leb, eqb}
-use borrow.Author.Tests.{ltb-true, lt-ltb, lt-leb, le-leb, ne-eqb}
-use Rattle.rules.specs.Order.{keyed, on, first, Ordered}
+use borrow.Author.Tests.{ltb-true, lt-ltb, ne-eqb}
+use Rattle.rules.specs.Order.{keyed, on}
 use Rattle.rules.specs.Labels.{edgeIn}
-use Rattle.rules.specs.Search.{State, start, waiting, visit, before, next, choice, run, search}
-use Rattle.laws.proofs.Keyed.{keyed-ordered}
+use Rattle.rules.specs.Search.{State, start, waiting, visit, next, choice, run, search}
 use Rattle.laws.proofs.Tests.{and-l, and-r, and-i, count-le, count-same, le-or-lt, never}
 use Rattle.laws.proofs.Order.{first-some, firsts-same}
-use Rattle.laws.proofs.Line.{Whole, line-whole, place-before, first-on, none-on}
-use Rattle.laws.proofs.Search.{waits-seen, choice-none, choice-some, choice-same, visits, visits-room, run-next, run-done, run-sound}
+use Rattle.laws.proofs.Search.{waits-seen, choice-same, visits, visits-room, run-next, run-done, run-sound}
 use Rattle.search.specs.Line.{waits, sees}
 use Rattle.search.specs.Seen.{Lined, Visited, goesOn, soughtBy, Explored}
-use Rattle.search.proofs.Seeing.{inLine, line-size, line-seen, line-id}
-use Rattle.search.proofs.Visiting.{Holds, waits-sees, visit-holds}
-
--- ---- the next visit, off the line
-
-module _ (n : ℕ) (D : ℕ → ℕ) (small : n ≤ 128) where
-  ordered : Ordered n (keyed D)
-  ordered = keyed-ordered D n small
-
-  module _ {flags line : List ℕ} {seen from : ℕ} (h : Lined n (keyed D) flags line seen from) (width : ℕ) where
-    abbrev ids : List ℕ
-    ids = inLine n D small flags
-
-    whole : Whole (keyed D) n (sees flags) ids
-    whole = line-whole (keyed D) n ordered (sees flags)
-
-    size : length ids ≡ seen
-    size = line-size n D small h
-
-    passed-id : (i : ℕ) → i < from → waits flags (getD ids i 0) ≡ false
-    passed-id i l = rw (← line-id n D small h i (omega (arith, h .from-in))) (h .passed i l)
-
-    -- the point that waits at the place `from` is the first that waits, and `from` seen points come before it
-    choice-at : from < seen → waits flags (getD line from 0 % 128) ≡ true →
-        choice n (keyed D) width (sees flags) (waits flags) ≡ cond (leb width from) none (some (getD line from 0 % 128))
-    choice-at l w =
-        let x : ℕ = getD ids from 0 in
-        let e : getD line from 0 % 128 ≡ x = line-id n D small h from l in
-        let r : from < length ids = omega (arith, size) in
-        let f : first (keyed D) n (waits flags) ≡ some x =
-        first-on (keyed D) n ordered ids (sees flags) (waits flags) whole (λ y ly t. waits-sees flags y t) from r passed-id (rw e at w) in
-        let b : before n (keyed D) (sees flags) x ≡ from = place-before (keyed D) n ordered ids (sees flags) whole from r in
-        choice-some n (keyed D) width (sees flags) (waits flags) f ∙ rw (b, e)
-
-    choice-visit : from < seen → from < width → waits flags (getD line from 0 % 128) ≡ true →
-        choice n (keyed D) width (sees flags) (waits flags) ≡ some (getD line from 0 % 128)
-    choice-visit l g w = choice-at l w ∙ rw (lt-leb width from g)
-
-    choice-full : from < seen → width ≤ from → waits flags (getD line from 0 % 128) ≡ true →
-        choice n (keyed D) width (sees flags) (waits flags) ≡ none
-    choice-full l g w = choice-at l w ∙ rw (le-leb width from g)
-
-    choice-done : seen ≤ from → choice n (keyed D) width (sees flags) (waits flags) ≡ none
-    choice-done l =
-        choice-none n (keyed D) width (sees flags) (waits flags)
-        (none-on (keyed D) n ordered ids (sees flags) (waits flags) whole
-        (λ y ly t. waits-sees flags y t) (λ i k. passed-id i (omega (arith, size))))
+use Rattle.search.proofs.Seeing.{line-size, line-seen, line-id}
+use Rattle.search.proofs.Visiting.{Holds, visit-holds}
+use Rattle.search.proofs.Choosing.{choice-visit, choice-full, choice-done}
 
 -- what is chosen by the flags is the next visit
 next-holds : (n : ℕ) (key : ℕ → ℕ) (width : ℕ) (s : State) (flags : List ℕ) → Holds n s flags →
