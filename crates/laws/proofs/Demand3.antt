@@ -1,14 +1,12 @@
 -- Demand 3. Assumes nothing.
 use Prim.Native.Nat.{ℕ, _≤_, _<_}
 use mathlib.Core.Path.{_≡_}
-use mathlib.Core.Logic.{_≢_}
 use mathlib.Core.Bool.{Bool, true}
 use Rattle.rules.specs.Order.{Ordered}
-use Rattle.rules.specs.Edges.{DirectRule, Closing, Symmetric, between}
+use Rattle.rules.specs.Edges.{Closing, Symmetric}
 use Rattle.laws.specs.Demand3.{Wider, Exact}
 use Rattle.laws.proofs.Nearest.{firsts-nearest}
 use Rattle.laws.proofs.Search.{search-wider, answer-wider}
-use Rattle.laws.proofs.Edges.{rule-closing, between-is, closing-more}
 use Rattle.laws.proofs.Whole.{all-seen, answer-whole}
 
 module _ (n : ℕ) (key : ℕ → ℕ) (ordered : Ordered n key) (edge : ℕ → ℕ → Bool) (given : ℕ → Bool) (k : ℕ) where
@@ -27,7 +25,3 @@ module _ (n : ℕ) (key : ℕ → ℕ) (ordered : Ordered n key) (edge : ℕ →
           answers = e;
           nearest = rw e (firsts-nearest key n ordered k (λ y. true));
         }
-
-    -- at every threshold of a table whose direct edges have the least label
-    pub exact-direct : (d : ℕ → ℕ → Bool) → DirectRule δ n d → ((x y : ℕ) → x < n → y < n → x ≢ y → d x y ≡ true → edge x y ≡ true) → Exact n key edge given width k
-    exact-direct d rule more = exact (closing-more δ symm n d edge more (rule-closing (between δ) n d rule δ (λ x y r lx ly lr h. between-is δ x y r .0 h .1)))

@@ -1,11 +1,11 @@
 -- D: how it is summed, that it is the same both ways and 0 from a point to itself; and the squares that it adds up. Assumes nothing.
-use Prim.Native.Nat.{ℕ, zero, suc, _+_, _-_, _*_, _≤_, _<_}
+use Prim.Native.Nat.{ℕ, zero, suc, _+_, _-_, _≤_, _<_}
 use mathlib.Core.Path.{_≡_, refl, sym, ap, _∙_}
 use mathlib.Core.Bool.{Bool, true, false, cond}
 use mathlib.Core.List.{List, [], _∷_}
 use native.Mathlib.Nat.{le-of-suc-le-suc, zero-add, suc-add}
 use native.Mathlib.Omega.{arith}
-use lib.Dec.{T, ltb, leb, leb→le}
+use lib.Dec.{T, ltb, leb→le}
 use lib.IntN.{ℤ, pos, negsuc, negℤ, subℕ, _+ℤ_, _-ℤ_, _*ℤ_, natAbs, negℤ-+ℤ, negℤ-negℤ, +ℤ-comm, +ℤ-invr}
 use lib.Signed.{mag, leZ}
 use lib.ListN.{length, take, drop}
@@ -22,7 +22,8 @@ dist-nil [] = refl
 dist-nil (x ∷ xs) = refl
 
 -- k pairs and then m pairs
-pub dist-add : (k m : ℕ) (xs ys : List ℤ) → dist (take (k + m) xs) (take (k + m) ys) ≡ dist (take k xs) (take k ys) + dist (take m (drop k xs)) (take m (drop k ys))
+pub dist-add : (k m : ℕ) (xs ys : List ℤ) →
+    dist (take (k + m) xs) (take (k + m) ys) ≡ dist (take k xs) (take k ys) + dist (take m (drop k xs)) (take m (drop k ys))
 unfolding dist
 dist-add zero m xs ys = rw (zero-add, zero-add)
 dist-add (suc k) m [] ys = rw (suc-add, take-nil m)

@@ -71,7 +71,8 @@ module _ (hides : ℕ → ℕ → ℕ → Bool) (n : ℕ) where
         keptIn-suc (δ u v) u v
         ∙ ap
         not
-        (hidden-same (keptIn hides n (δ u v)) (λ u v. keptIn hides n (suc (δ u v)) u v) u v (λ r h. keptIn-enough (δ u v) (suc (δ u r)) u r (nearer u v r h) (lt-suc-self (δ u r))))
+        (hidden-same (keptIn hides n (δ u v)) (λ u v. keptIn hides n (suc (δ u v)) u v) u v
+        (λ r h. keptIn-enough (δ u v) (suc (δ u r)) u r (nearer u v r h) (lt-suc-self (δ u r))))
 
     -- and of no other table
     module _ (apart : (u v r : ℕ) → u < n → v < n → r < n → hides u v r ≡ true → u ≢ r) (a b : ℕ → ℕ → Bool) (ra : Rule hides n a) (rb : Rule hides n b) where
@@ -141,7 +142,8 @@ module _ (δ : ℕ → ℕ → ℕ) where
   direct-closing n = rule-closing (between δ) n (direct δ n) (direct-rule n) δ (λ u v r lu lv lr h. between-is u v r .0 h .1)
 
   -- more edges, as at a larger threshold, leave a graph closing
-  pub closing-more : Symmetric δ → (n : ℕ) (a b : ℕ → ℕ → Bool) → ((u v : ℕ) → u < n → v < n → u ≢ v → a u v ≡ true → b u v ≡ true) → Closing δ n a → Closing δ n b
+  pub closing-more : Symmetric δ → (n : ℕ) (a b : ℕ → ℕ → Bool) → ((u v : ℕ) → u < n → v < n → u ≢ v → a u v ≡ true → b u v ≡ true) → Closing δ n a →
+      Closing δ n b
   closing-more symm n a b more c u v lu lv d =
       ⊎-elim
       (λ e. inl (more u v lu lv d e))

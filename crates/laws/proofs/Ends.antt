@@ -8,7 +8,8 @@ use Rattle.laws.proofs.Tests.{count-le}
 use Rattle.laws.proofs.Nearest.{firsts-nearest}
 use Rattle.laws.proofs.Search.{run-sound, search-stops, walked-le-seen}
 
-pub search-finishes : (n : ℕ) (key : ℕ → ℕ) → Ordered n key → (edge : ℕ → ℕ → Bool) (width : ℕ) (given : ℕ → Bool) (k : ℕ) → Finished n key width k (search n key edge width given)
+pub search-finishes : (n : ℕ) (key : ℕ → ℕ) → Ordered n key → (edge : ℕ → ℕ → Bool) (width : ℕ) (given : ℕ → Bool) (k : ℕ) →
+    Finished n key width k (search n key edge width given)
 unfolding search answer
 search-finishes n key ordered edge width given k =
     let h = run-sound n key edge width n given in

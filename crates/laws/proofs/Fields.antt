@@ -8,7 +8,7 @@ use lib.ListN.{length, take, drop, length-drop, take-append-drop}
 use lib.Seq.{take-nil, drop-nil, take-append-le, drop-append-le, drop-append-add}
 use lib.Pow.{high, low, field}
 use Rattle.rules.specs.Bits.{bits, number, unpacked}
-use Rattle.rules.specs.Sheet.{fieldAt, points, coords, width, askCount}
+use Rattle.rules.specs.Sheet.{fieldAt, points, coords, width}
 use Rattle.laws.proofs.Bits.{length-bits, number-lt, taken-small, number-append}
 use Rattle.laws.proofs.Packing.{length-unpacked}
 
@@ -29,10 +29,6 @@ coords-small ys = omega (arith, field-lt ys 7 6)
 pub width-small : (ys : List ℕ) → (1 ≤ width ys) × (width ys ≤ 8)
 unfolding width
 width-small ys = omega (arith, field-lt ys 13 3)
-
-pub asks-small : (ys : List ℕ) → askCount ys ≤ 255
-unfolding askCount
-asks-small ys = omega (arith, field-lt ys 16 8)
 
 -- ---- a field ends where the sheet does
 

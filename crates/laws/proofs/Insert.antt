@@ -1,24 +1,22 @@
 -- The first k of a set and one more id: that id put in its place, and k of that list. Assumes nothing.
 use Prim.Native.Nat.{ℕ, zero, suc, _≤_, _<_}
-use native.Mathlib.Nat.{le-refl, eq-or-lt-of-le}
+use native.Mathlib.Nat.{le-refl}
 use native.Mathlib.Omega.{arith}
 use mathlib.Core.Path.{_≡_, refl, sym, ap, _∙_}
 use mathlib.Core.Logic.{_⊎_, inl, inr, ⊎-elim}
-use mathlib.Core.Bool.{Bool, true, false, not, _&&_, _||_}
-use mathlib.Core.Option.{none, some}
+use mathlib.Core.Bool.{Bool, true, false}
+use mathlib.Core.Option.{some}
 use mathlib.Core.List.{List, [], _∷_}
-use lib.Dec.{ltb, eqb}
+use lib.Dec.{eqb}
 use lib.ListN.{take}
 use lib.Seq.{take-nil}
-use borrow.Author.Tests.{ltb-true, ltb-false, lt-ltb, le-ltb, eq-eqb, ne-eqb, eqb-true}
+use borrow.Author.Tests.{lt-ltb, le-ltb, eq-eqb, eqb-true}
 use Rattle.rules.specs.Order.{without, Ordered, first, firsts}
 use Rattle.laws.specs.Line.{adding, insert}
 use Rattle.laws.proofs.Tests.{both, never, same, or-l, or-r, or-cases, le-or-lt}
-use Rattle.laws.proofs.Order.{Least, without-in, without-of, without-ne, first-none, first-some, first-cases, first-same, firsts-none, firsts-some, firsts-same}
+use Rattle.laws.proofs.Order.{Least, without-in, without-of, without-ne}
+use Rattle.laws.proofs.Order.{first-none, first-some, first-cases, first-same, firsts-none, firsts-some, firsts-same}
 use Rattle.laws.proofs.Nearest.{first-is}
-
-pub lt-or-le : (a b : ℕ) → (a < b) ⊎ (b ≤ a)
-lt-or-le a b = ⊎-elim inr inl (le-or-lt b a)
 
 -- ---- sets
 
@@ -49,7 +47,10 @@ without-adding x z p d y =
     same
     _
     _
-    (λ e. ⊎-elim (λ q. rw q (adding-new y (without z p))) (λ t. adding-old x (without z p) y (without-in z p y t (without-ne z (adding x p) y e))) (adding-cases x p y (without-of z (adding x p) y e)))
+    (λ e. ⊎-elim
+    (λ q. rw q (adding-new y (without z p)))
+    (λ t. adding-old x (without z p) y (without-in z p y t (without-ne z (adding x p) y e)))
+    (adding-cases x p y (without-of z (adding x p) y e)))
     (λ e. ⊎-elim
     (λ q. without-in z (adding x p) y (rw q (adding-new y p)) (λ s. d (q ∙ s)))
     (λ t. without-in z (adding x p) y (adding-old x p y (without-of z p y t)) (without-ne z p y t))
@@ -109,17 +110,18 @@ module _ (key : ℕ → ℕ) (n : ℕ) where
         let h = first-some key n p (g .1) in
         let old = firsts-some key n k p (g .1) in
         ⊎-elim
+        (λ (c : key z ≤ key x).
+        let d : x ≡ z → ⊥ = λ q. never (rw (← q) at (h .1)) f in
+        let out : without z p x ≡ false = ⊎-elim (λ t. absurd (never (without-of z p x t) f)) (λ t. t) (both (without z p x)) in
+        let new = first-old p z h c in
+        let rest = firsts-same key n k (without z (adding x p)) (adding x (without z p)) (λ y l. without-adding x z p d y) in
+        firsts-some key n k (adding x p) new
+        ∙ ap (λ (l : List ℕ). z ∷ l) (rest ∙ firsts-insert k (without z p) out)
+        ∙ rw (old, insert-after key x z (firsts key n k (without z p)) c))
         (λ (c : key x < key z).
         let new = first-new p (λ y l t. omega (arith, h .2 y l t)) in
         firsts-some key n k (adding x p) new
         ∙ ap (λ (l : List ℕ). x ∷ l) (firsts-same key n k (without x (adding x p)) p (λ y l. added-without x p f y) ∙ sym (firsts-take k p))
         ∙ rw (old, insert-before key x z (firsts key n k (without z p)) c))
-        (λ (c : key z ≤ key x).
-        let d : x ≡ z → ⊥ = λ q. never (rw (← q) at (h .1)) f in
-        let out : without z p x ≡ false = ⊎-elim (λ t. absurd (never (without-of z p x t) f)) (λ t. t) (both (without z p x)) in
-        let new = first-old p z h c in
-        firsts-some key n k (adding x p) new
-        ∙ ap (λ (l : List ℕ). z ∷ l) (firsts-same key n k (without z (adding x p)) (adding x (without z p)) (λ y l. without-adding x z p d y) ∙ firsts-insert k (without z p) out)
-        ∙ rw (old, insert-after key x z (firsts key n k (without z p)) c))
-        (lt-or-le (key x) (key z)))
+        (le-or-lt (key z) (key x)))
         (first-cases key n p)

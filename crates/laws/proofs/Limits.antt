@@ -60,7 +60,8 @@ label-limit duv dwv h k =
 
 -- ---- the largest cell off the diagonal
 
-module _ (δ : ℕ → ℕ → ℕ) (n : ℕ) (small : (u v : ℕ) → u < n → v < n → δ u v ≤ 4161600) (alike : (u v w : ℕ) → u < n → v < n → w < n → δ w v ≡ 0 → δ u w ≡ δ u v) where
+module _ (δ : ℕ → ℕ → ℕ) (n : ℕ) (small : (u v : ℕ) → u < n → v < n → δ u v ≤ 4161600)
+    (alike : (u v w : ℕ) → u < n → v < n → w < n → δ w v ≡ 0 → δ u w ≡ δ u v) where
   -- a point that leads towards v is not at v
   leads-apart : (u v w : ℕ) → u < n → v < n → w < n → leads δ n u v w ≡ true → 1 ≤ δ w v
   leads-apart u v w lu lv lw e =
@@ -152,8 +153,8 @@ module _ (n d : ℕ) (vectors : List ℤ) (ok : SetOk n d (length vectors)) wher
   pub apart-small : Bytes vectors → (u v : ℕ) → u < n → v < n → apart d vectors u v ≤ 4161600
   unfolding apart
   apart-small bytes u v lu lv =
-      omega
-      (arith, dist-small (coordinates d vectors u) (coordinates d vectors v) (coordinates-bytes bytes u lu) (coordinates-bytes bytes v lv), coordinates-length u lu, ok .few-coordinates)
+      let small = dist-small (coordinates d vectors u) (coordinates d vectors v) (coordinates-bytes bytes u lu) (coordinates-bytes bytes v lv) in
+      omega (arith, small, coordinates-length u lu, ok .few-coordinates)
 
   -- every cell off the diagonal of the set's own table
   pub own-limit : Bytes vectors → (u v : ℕ) → u < n → v < n → u ≢ v → cell (apart d vectors) n u v ≤ 32624

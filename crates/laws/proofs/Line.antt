@@ -1,7 +1,7 @@
 -- The ids of a set in order, `firsts key n j p`: the place of an id is the number of ids before it, the first of a smaller set is the first of the list
 -- that is in it, and the first k are the list's beginning. Assumes nothing.
-use Prim.Native.Nat.{ℕ, zero, suc, _+_, _≤_, _<_, min}
-use native.Mathlib.Nat.{le-refl, not-suc-le-zero, lt-irrefl}
+use Prim.Native.Nat.{ℕ, zero, suc, _≤_, _<_}
+use native.Mathlib.Nat.{not-suc-le-zero, lt-irrefl}
 use native.Mathlib.Omega.{arith}
 use mathlib.Core.Path.{_≡_, refl, sym, ap, _∙_}
 use mathlib.Core.Logic.{⊎-elim}
@@ -12,7 +12,7 @@ use lib.Dec.{ltb}
 use lib.ListN.{length, getD, take, drop}
 use lib.Seq.{take-all}
 use borrow.Author.Tests.{lt-ltb, le-ltb}
-use Rattle.rules.specs.Order.{count, without, Within, Ordered, first, firsts, Nearest}
+use Rattle.rules.specs.Order.{count, without, Within, Ordered, first, firsts}
 use Rattle.rules.specs.Search.{before}
 use Rattle.laws.specs.Line.{adding, insert, Place}
 use Rattle.laws.proofs.Tests.{both, never, and-l, and-i, and-r, le-or-lt, count-le, count-lt, count-none, count-one, count-pos}
@@ -26,6 +26,12 @@ module _ (key : ℕ → ℕ) (n : ℕ) where
   Whole p [] = None n p
   Whole p (x ∷ l) = Least key n p x × Whole (without x p) l
 
+-- an element of a list of keys, or of what else is worked out of each number
+pub getD-map : (f : ℕ → ℕ) (l : List ℕ) (i : ℕ) → i < length l → getD (map f l) i 0 ≡ f (getD l i 0)
+getD-map f [] i l = absurd (not-suc-le-zero l)
+getD-map f (x ∷ l) zero h = refl
+getD-map f (x ∷ l) (suc i) h = getD-map f l i (omega arith)
+
 -- ---- a number in its place
 
 length-insert : (key : ℕ → ℕ) (x : ℕ) (l : List ℕ) → length (insert key x l) ≡ suc (length l)
@@ -37,7 +43,8 @@ length-insert key x (y ∷ l) =
     (le-or-lt (key y) (key x))
 
 -- a key in its place on a list of keys is the id in its place on the list of ids
-place-insert : (key : ℕ → ℕ) (x : ℕ) (l : List ℕ) (r : ℕ) → Place (key x) (map key l) r → map key (insert key x l) ≡ take r (map key l) ++ (key x ∷ drop r (map key l))
+place-insert : (key : ℕ → ℕ) (x : ℕ) (l : List ℕ) (r : ℕ) → Place (key x) (map key l) r →
+    map key (insert key x l) ≡ take r (map key l) ++ (key x ∷ drop r (map key l))
 place-insert key x [] zero h = rw (insert-nil key x)
 place-insert key x [] (suc r) h = absurd (not-suc-le-zero (h .within))
 place-insert key x (y ∷ l) zero h = rw (insert-before key x y l (h .larger 0 (omega arith) (omega arith)))
@@ -99,11 +106,13 @@ module _ (key : ℕ → ℕ) (n : ℕ) (ordered : Ordered n key) where
       ∙ ap suc (place-before l (without x p) (h .1) r (omega arith))
 
   -- the first of a smaller set w is the first on the list that is in w
-  pub first-on : (l : List ℕ) (p w : ℕ → Bool) → Whole key n p l → Within n w p → (r : ℕ) → r < length l → ((i : ℕ) → i < r → w (getD l i 0) ≡ false) → w (getD l r 0) ≡ true → first key n w ≡ some (getD l r 0)
+  pub first-on : (l : List ℕ) (p w : ℕ → Bool) → Whole key n p l → Within n w p → (r : ℕ) → r < length l →
+      ((i : ℕ) → i < r → w (getD l i 0) ≡ false) → w (getD l r 0) ≡ true → first key n w ≡ some (getD l r 0)
   first-on [] p w h s r q f t = absurd (not-suc-le-zero q)
   first-on (x ∷ l) p w h s zero q f t = first-is key n ordered w x (h .0 .0, t, λ y ly e. h .0 .2 y ly (s y ly e))
   first-on (x ∷ l) p w h s (suc r) q f t =
-      first-on l (without x p) w (h .1) (λ y ly e. without-in x p y (s y ly e) (λ d. never (rw d at e) (f 0 (omega arith)))) r (omega arith) (λ i li. f (suc i) (omega arith)) t
+      first-on l (without x p) w (h .1) (λ y ly e. without-in x p y (s y ly e) (λ d. never (rw d at e) (f 0 (omega arith))))
+      r (omega arith) (λ i li. f (suc i) (omega arith)) t
 
   -- none is left where none on the list is in w
   pub none-on : (l : List ℕ) (p w : ℕ → Bool) → Whole key n p l → Within n w p → ((i : ℕ) → i < length l → w (getD l i 0) ≡ false) → first key n w ≡ none
@@ -154,7 +163,8 @@ module _ (key : ℕ → ℕ) (n : ℕ) (ordered : Ordered n key) where
   line-length p = sym (whole-count (firsts key n n p) p (line-whole p))
 
   -- one more id: its key in its place
-  pub line-insert : (p : ℕ → Bool) (x : ℕ) → x < n → p x ≡ false → (r : ℕ) → Place (key x) (map key (firsts key n n p)) r → map key (firsts key n n (adding x p)) ≡ take r (map key (firsts key n n p)) ++ (key x ∷ drop r (map key (firsts key n n p)))
+  pub line-insert : (p : ℕ → Bool) (x : ℕ) → x < n → p x ≡ false → (r : ℕ) → Place (key x) (map key (firsts key n n p)) r →
+      map key (firsts key n n (adding x p)) ≡ take r (map key (firsts key n n p)) ++ (key x ∷ drop r (map key (firsts key n n p)))
   line-insert p x lx f r h =
       let room : length (insert key x (firsts key n n p)) ≤ n = omega (arith, length-insert key x (firsts key n n p), line-length p, count-lt n p x lx f) in
       ap (map key) (firsts-insert key n ordered x lx n p f ∙ take-all n _ room)

@@ -93,7 +93,11 @@ module _ (key : ℕ → ℕ) (n : ℕ) (ordered : Ordered n key) where
   firsts-nearest (suc k) p =
       ⊎-elim
       (λ e. rw (firsts-none key n (suc k) p e) (nearest-nil (suc k) p (omega (arith, count-none n p (first-none key n p e)))))
-      (λ f. rw (firsts-some key n k p (f .1)) (nearest-cons k p (f .0) (firsts key n k (without (f .0) p)) (first-some key n p (f .1)) (firsts-nearest k (without (f .0) p))))
+      (λ f.
+      let x : ℕ = f .0 in
+      rw
+      (firsts-some key n k p (f .1))
+      (nearest-cons k p x (firsts key n k (without x p)) (first-some key n p (f .1)) (firsts-nearest k (without x p))))
       (first-cases key n p)
 
   nearest-head : (k : ℕ) (p : ℕ → Bool) (x : ℕ) (l : List ℕ) → Nearest key n k p (x ∷ l) → Least key n p x
@@ -134,4 +138,5 @@ module _ (key : ℕ → ℕ) (n : ℕ) (ordered : Ordered n key) where
       absurd (lt-irrefl 0 (omega (arith, r .many, count-pos n p (f .0) (l .0) (l .1)))))
       (first-cases key n p)
   nearest-one (suc k) p (x ∷ l) r =
-      ap (λ (t : List ℕ). x ∷ t) (nearest-one k (without x p) l (nearest-tail k p x l r)) ∙ sym (firsts-some key n k p (first-is p x (nearest-head (suc k) p x l r)))
+      ap (λ (t : List ℕ). x ∷ t) (nearest-one k (without x p) l (nearest-tail k p x l r))
+      ∙ sym (firsts-some key n k p (first-is p x (nearest-head (suc k) p x l r)))

@@ -9,7 +9,7 @@ use mathlib.Core.Option.{Option, none, some}
 use mathlib.Core.List.{List, [], _∷_}
 use lib.ListN.{length, getD}
 use lib.Dec.{ltb, eqb}
-use borrow.Author.Tests.{ltb-true, ltb-false, lt-ltb, le-ltb, ne-eqb, eqb-false, not-true}
+use borrow.Author.Tests.{ltb-true, ltb-false, ne-eqb, eqb-false, not-true}
 use Rattle.rules.specs.Order.{without, Within, Ordered, pick, first, firsts, NoLater}
 use Rattle.laws.proofs.Tests.{never, and-l, and-r, and-i, below}
 
@@ -81,24 +81,6 @@ module _ (key : ℕ → ℕ) where
       go : (r : Option ℕ) → first key n p ≡ r → (first key n p ≡ none) ⊎ ((x : ℕ) × (first key n p ≡ some x))
       go none e = inl e
       go (some x) e = inr (x, e)
-
-  -- one more id: for a loop that scans the ids
-
-  pub first-skip : (n : ℕ) (p : ℕ → Bool) → p n ≡ false → first key (suc n) p ≡ first key n p
-  unfolding first pick
-  first-skip n p e = rw e
-
-  pub first-new : (n : ℕ) (p : ℕ → Bool) → p n ≡ true → first key n p ≡ none → first key (suc n) p ≡ some n
-  unfolding first pick
-  first-new n p e f = rw (e, f)
-
-  pub first-less : (n : ℕ) (p : ℕ → Bool) {x : ℕ} → p n ≡ true → first key n p ≡ some x → key n < key x → first key (suc n) p ≡ some n
-  unfolding first pick
-  first-less n p {x} e f l = rw (e, f, lt-ltb (key n) (key x) l)
-
-  pub first-keep : (n : ℕ) (p : ℕ → Bool) {x : ℕ} → p n ≡ true → first key n p ≡ some x → key x ≤ key n → first key (suc n) p ≡ some x
-  unfolding first pick
-  first-keep n p {x} e f l = rw (e, f, le-ltb (key n) (key x) l)
 
   -- ---- the first k
 

@@ -1,14 +1,13 @@
 -- Refusals: what an answer of 0 tells, and what an entry answers and leaves. How one order goes on from another is in `RefusalOrder`. Assumes nothing.
 use Prim.Native.Nat.{ℕ, zero, suc, _+_, _*_, _≤_, _<_}
-use mathlib.Core.Path.{_≡_, refl, sym, _∙_}
+use mathlib.Core.Path.{_≡_, refl}
 use mathlib.Core.Logic.{_≢_}
-use mathlib.Core.Bool.{Bool, true, false, not, cond, _||_, true≢false}
-use mathlib.Core.List.{List, [], _∷_}
+use mathlib.Core.Bool.{Bool, true, false, cond}
 use native.Mathlib.Nat.{mul-le-mul-right, mul-le-mul, suc-mul}
 use native.Mathlib.Omega.{arith}
-use lib.Dec.{eqb, leb, ltb}
+use lib.Dec.{eqb, ltb}
 use borrow.Author.Tests.{ltb-false, eqb-true, not-false}
-use Rattle.rules.specs.Outcome.{Outcome, gives, refused, outcome, after, firstOf, orElse}
+use Rattle.rules.specs.Outcome.{gives, refused, outcome, after, orElse}
 use Rattle.rules.specs.Refusals.{outside, differ, setRefusal}
 use Rattle.laws.proofs.Tests.{or-off, or-off-r}
 

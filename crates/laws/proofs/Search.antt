@@ -12,7 +12,8 @@ use lib.Dec.{ltb, leb, eqb}
 use borrow.Author.Tests.{le-leb, lt-leb, eqb-true, eq-eqb, ne-eqb, not-true}
 use Rattle.rules.specs.Order.{count, on, Ordered, first, NoLater}
 use Rattle.rules.specs.Search.{State, waiting, start, before, choice, visit, next, run, search, answer, GoesOn}
-use Rattle.laws.proofs.Tests.{none-some, and-l, and-r, or-l, or-r, or-cases, or-assoc, or-false, or-off, le-or-lt, count-same, count-less, count-pos, count-le, count-mono, count-lt, count-one, count-none}
+use Rattle.laws.proofs.Tests.{none-some, and-l, and-r, or-l, or-r, or-cases, or-assoc, or-false, or-off, le-or-lt}
+use Rattle.laws.proofs.Tests.{count-same, count-less, count-pos, count-le, count-mono, count-lt, count-one, count-none}
 use Rattle.laws.proofs.Order.{first-some, first-same, first-cases, firsts-no-later}
 
 -- ---- the trail
@@ -87,7 +88,8 @@ module _ (n : ℕ) (key : ℕ → ℕ) (width : ℕ) where
   unfolding choice
   choice-none seen waits e = rw (e, choice)
 
-  pub choice-some : (seen waits : ℕ → Bool) {x : ℕ} → first key n waits ≡ some x → choice n key width seen waits ≡ cond (leb width (before n key seen x)) none (some x)
+  pub choice-some : (seen waits : ℕ → Bool) {x : ℕ} → first key n waits ≡ some x →
+      choice n key width seen waits ≡ cond (leb width (before n key seen x)) none (some x)
   unfolding choice
   choice-some seen waits e = rw (e, choice)
 
@@ -97,8 +99,10 @@ module _ (n : ℕ) (key : ℕ → ℕ) (width : ℕ) where
       ⊎-elim
       (λ e. choice-none a p (first-same key n p q g ∙ e) ∙ sym (choice-none b q e))
       (λ h.
+      let sooner : ℕ → Bool = λ y. ltb (key y) (key (h .0)) in
+      let as-many = count-same n (λ y. a y && sooner y) (λ y. b y && sooner y) (λ y l. ap (λ c. c && sooner y) (f y l)) in
       choice-some a p (first-same key n p q g ∙ h .1)
-      ∙ ap (λ m. cond (leb width m) none (some (h .0))) (count-same n (λ y. a y && ltb (key y) (key (h .0))) (λ y. b y && ltb (key y) (key (h .0))) (λ y l. ap (λ c. c && ltb (key y) (key (h .0))) (f y l)))
+      ∙ ap (λ m. cond (leb width m) none (some (h .0))) as-many
       ∙ sym (choice-some b q (h .1)))
       (first-cases key n q)
 
@@ -118,11 +122,16 @@ module _ (n : ℕ) (key : ℕ → ℕ) (width : ℕ) (s : State) where
   next-empty e = rw (e, choice)
 
   -- either nothing waits, or the first x that waits has the width's number of seen ids before it, or x is visited
-  pub next-cases : (first key n (waiting s) ≡ none) ⊎ ((x : ℕ) × (first key n (waiting s) ≡ some x) × ((width ≤ before n key (s .seen) x) ⊎ (before n key (s .seen) x < width)))
+  pub next-cases : (first key n (waiting s) ≡ none)
+      ⊎ ((x : ℕ) × (first key n (waiting s) ≡ some x) × ((width ≤ before n key (s .seen) x) ⊎ (before n key (s .seen) x < width)))
   next-cases = ⊎-elim inl (λ f. inr (f .0, f .1, le-or-lt width (before n key (s .seen) (f .0)))) (first-cases key n (waiting s))
 
   pub stop-or-visit : (next n key width s ≡ none) ⊎ ((x : ℕ) × (next n key width s ≡ some x))
-  stop-or-visit = ⊎-elim (λ e. inl (next-empty e)) (λ f. ⊎-elim (λ l. inl (next-stop (f .0) (f .1) l)) (λ l. inr (f .0, next-visit (f .0) (f .1) l)) (f .2)) next-cases
+  stop-or-visit =
+      ⊎-elim
+      (λ e. inl (next-empty e))
+      (λ f. ⊎-elim (λ l. inl (next-stop (f .0) (f .1) l)) (λ l. inr (f .0, next-visit (f .0) (f .1) l)) (f .2))
+      next-cases
 
   -- what a visit tells
   pub visits : {x : ℕ} → next n key width s ≡ some x → (first key n (waiting s) ≡ some x) × (before n key (s .seen) x < width)
@@ -157,7 +166,8 @@ module _ (n : ℕ) (key : ℕ → ℕ) (edge : ℕ → ℕ → Bool) (width : �
   run-visits fuel s v = rw (v, run)
 
   -- what each visit keeps, a run keeps
-  pub run-keeps : (P : State → Type 0) → ((s : State) (x : ℕ) → next n key width s ≡ some x → P s → P (visit edge s x)) → (fuel : ℕ) (s : State) → P s → P (run n key edge width fuel s)
+  pub run-keeps : (P : State → Type 0) → ((s : State) (x : ℕ) → next n key width s ≡ some x → P s → P (visit edge s x)) → (fuel : ℕ) (s : State) →
+      P s → P (run n key edge width fuel s)
   unfolding run
   run-keeps P keeps zero s h = h
   run-keeps P keeps (suc fuel) s h =
@@ -195,7 +205,8 @@ module _ (n : ℕ) (key : ℕ → ℕ) (edge : ℕ → ℕ → Bool) (width : �
 
   -- ---- for an engine that makes one visit after another: the state after i + 1 visits, and the state at the stop
 
-  pub run-next : (i : ℕ) (s : State) {x : ℕ} → next n key width (run n key edge width i s) ≡ some x → run n key edge width (suc i) s ≡ visit edge (run n key edge width i s) x
+  pub run-next : (i : ℕ) (s : State) {x : ℕ} → next n key width (run n key edge width i s) ≡ some x →
+      run n key edge width (suc i) s ≡ visit edge (run n key edge width i s) x
   unfolding run
   run-next zero s v = run-visits 0 s v
   run-next (suc i) s {x} v =
@@ -274,6 +285,7 @@ module _ (n : ℕ) (key : ℕ → ℕ) (edge : ℕ → ℕ → Bool) (width wide
   search-wider given = run-wider n (start given)
 
   -- the wider search finds at least as many, and at each place of the narrower one's answers the same id or an earlier one
-  pub answer-wider : Ordered n key → (given : ℕ → Bool) (k : ℕ) → NoLater key (answer n key k (search n key edge width given)) (answer n key k (search n key edge wider given))
+  pub answer-wider : Ordered n key → (given : ℕ → Bool) (k : ℕ) →
+      NoLater key (answer n key k (search n key edge width given)) (answer n key k (search n key edge wider given))
   unfolding answer
   answer-wider ordered given k = firsts-no-later key n ordered k _ _ (search-wider given .2)

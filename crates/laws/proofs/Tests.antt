@@ -128,15 +128,6 @@ count-none (suc n) p h =
 pub count-lt : (n : ℕ) (p : ℕ → Bool) (x : ℕ) → x < n → p x ≡ false → count n p < n
 count-lt n p x l e = omega (arith, count-less n p (λ y. true) (λ y k a. refl) x l e refl, count-all n)
 
--- one more id: for a loop that counts
-pub count-hit : (n : ℕ) (p : ℕ → Bool) → p n ≡ true → count (suc n) p ≡ suc (count n p)
-unfolding count
-count-hit n p e = rw e (omega arith)
-
-pub count-miss : (n : ℕ) (p : ℕ → Bool) → p n ≡ false → count (suc n) p ≡ count n p
-unfolding count
-count-miss n p e = rw e (omega arith)
-
 pub count-same : (n : ℕ) (p q : ℕ → Bool) → ((y : ℕ) → y < n → p y ≡ q y) → count n p ≡ count n q
 unfolding count
 count-same zero p q h = refl

@@ -1,8 +1,8 @@
 -- Where the greedy walk ends, and after how many moves. Assumes nothing.
-use Prim.Native.Nat.{ℕ, zero, suc, _+_, _*_, _≤_, _<_}
-use native.Mathlib.Nat.{le-refl, le-antisymm, not-suc-le-zero, lt-irrefl}
+use Prim.Native.Nat.{ℕ, zero, suc, _+_, _≤_, _<_}
+use native.Mathlib.Nat.{le-refl, le-antisymm, lt-irrefl}
 use native.Mathlib.Omega.{arith}
-use mathlib.Core.Path.{_≡_, refl, sym, ap, _∙_}
+use mathlib.Core.Path.{_≡_, refl, sym}
 use mathlib.Core.Logic.{_⊎_, inl, inr, ⊎-elim}
 use mathlib.Core.Bool.{Bool, true, false, cond}
 use mathlib.Core.Option.{Option, none, some}
@@ -12,7 +12,7 @@ use Rattle.rules.specs.Order.{count, first, keyed}
 use Rattle.rules.specs.Edges.{Closing, Symmetric}
 use Rattle.rules.specs.Walk.{Walk, stepFrom, stepTo, walk, walkFrom, NearestId, Finds}
 use Rattle.laws.specs.Ends.{Stopped}
-use Rattle.laws.proofs.Tests.{both, le-or-lt, none-some, count-less, count-pos, count-lt}
+use Rattle.laws.proofs.Tests.{le-or-lt, none-some, count-less, count-lt}
 use Rattle.laws.proofs.Order.{first-none, first-some, first-cases}
 
 module _ (n : ℕ) (D : ℕ → ℕ) (edge : ℕ → ℕ → Bool) where
@@ -34,7 +34,8 @@ module _ (n : ℕ) (D : ℕ → ℕ) (edge : ℕ → ℕ → Bool) where
       pick y true t l f = let s : y ≡ x = cc in (rw s at l, rw s at (ltb-true (D y) (D u) t))
       pick y false t l f = absurd (none-some f)
 
-      go : (r : Option ℕ) → first (keyed D) n (edge u) ≡ r → elim r [ none ↦ none | some x ↦ cond (ltb (D x) (D u)) (some x) none ] ≡ some x → (x < n) × (D x < D u)
+      go : (r : Option ℕ) → first (keyed D) n (edge u) ≡ r → elim r [ none ↦ none | some x ↦ cond (ltb (D x) (D u)) (some x) none ] ≡ some x →
+          (x < n) × (D x < D u)
       go none f k = absurd (none-some k)
       go (some y) f k = pick y (ltb (D y) (D u)) refl (first-some (keyed D) n (edge u) f .0) k
 
@@ -64,7 +65,8 @@ module _ (n : ℕ) (D : ℕ → ℕ) (edge : ℕ → ℕ → Bool) where
   walk-stays zero w e = refl
   walk-stays (suc f) w e = rw (e, walk)
 
-  pub walk-moves : (f : ℕ) (w : Walk) (x : ℕ) → stepTo n D edge (w .current) ≡ some x → walk n D edge (suc f) w ≡ walk n D edge f (record { current = x; moves = suc (w .moves) })
+  pub walk-moves : (f : ℕ) (w : Walk) (x : ℕ) → stepTo n D edge (w .current) ≡ some x →
+      walk n D edge (suc f) w ≡ walk n D edge f (record { current = x; moves = suc (w .moves) })
   unfolding walk stepFrom
   walk-moves f w x e = rw (e, walk)
 
@@ -119,7 +121,8 @@ module _ (n : ℕ) (D : ℕ → ℕ) (edge : ℕ → ℕ → Bool) where
       record { within = r .within; stopped = r .stopped; short = omega (arith, r .counted, nearer-lt start l) }
 
   -- where each id that is not a nearest one has an edge to a nearer id, the walk from every start ends at a nearest one, in at most n - 1 moves
-  pub walk-finds : n ≤ 128 → (v : ℕ) → NearestId n D v → ((u : ℕ) → u < n → D v < D u → (w : ℕ) × (w < n) × (edge u w ≡ true) × (D w < D u)) → (start : ℕ) → start < n → Finds n D v (walkFrom n D edge start)
+  pub walk-finds : n ≤ 128 → (v : ℕ) → NearestId n D v → ((u : ℕ) → u < n → D v < D u → (w : ℕ) × (w < n) × (edge u w ≡ true) × (D w < D u)) →
+      (start : ℕ) → start < n → Finds n D v (walkFrom n D edge start)
   unfolding walkFrom
   walk-finds small v near down start l =
       let x : ℕ = walk n D edge n (record { current = start; moves = 0 }) .current in
@@ -134,7 +137,8 @@ module _ (n : ℕ) (D : ℕ → ℕ) (edge : ℕ → ℕ → Bool) where
       }
 
   -- document 01: where the query is a point v, a closing graph leads there, so that the walk ends at D = 0
-  pub walk-arrives : n ≤ 128 → (δ : ℕ → ℕ → ℕ) → Symmetric δ → Closing δ n edge → (v : ℕ) → v < n → ((u : ℕ) → u < n → D u ≡ δ u v) → D v ≡ 0 → (start : ℕ) → start < n → Finds n D v (walkFrom n D edge start)
+  pub walk-arrives : n ≤ 128 → (δ : ℕ → ℕ → ℕ) → Symmetric δ → Closing δ n edge → (v : ℕ) → v < n → ((u : ℕ) → u < n → D u ≡ δ u v) → D v ≡ 0 →
+      (start : ℕ) → start < n → Finds n D v (walkFrom n D edge start)
   walk-arrives small δ symm closing v lv is z =
       walk-finds small v (lv, λ y l. omega arith) λ u lu k.
       ⊎-elim

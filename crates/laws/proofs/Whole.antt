@@ -43,7 +43,10 @@ module _ (n : ℕ) (key : ℕ → ℕ) (edge : ℕ → ℕ → Bool) (width : �
   unfolding waiting
   wide-done s e y l t =
       ⊎-elim
-      (λ f. ⊎-elim (λ o. o) (λ o. absurd (first-none key n (waiting s) f y l (and-i (s .seen y) (not (on (s .trail) y)) t (ap not o)))) (both (on (s .trail) y)))
+      (λ f. ⊎-elim
+      (λ o. o)
+      (λ o. absurd (first-none key n (waiting s) f y l (and-i (s .seen y) (not (on (s .trail) y)) t (ap not o))))
+      (both (on (s .trail) y)))
       (λ f. absurd (lt-irrefl n (omega (arith, f .2, before-lt n key (s .seen) (f .0) (first-some key n (waiting s) (f .1) .0)))))
       (stops n key width s e)
 

@@ -3,10 +3,9 @@ use Prim.Native.Nat.{ℕ, _≤_, _<_, min}
 use mathlib.Core.Path.{_≡_}
 use mathlib.Core.Bool.{Bool, true}
 use mathlib.Core.Option.{none}
-use mathlib.Core.List.{List}
 use lib.ListN.{length}
 use Rattle.rules.specs.Order.{count, on}
-use Rattle.rules.specs.Search.{State, next, search, answer}
+use Rattle.rules.specs.Search.{State, next, answer}
 use Rattle.rules.specs.Walk.{Walk, stepTo}
 
 -- a search has come to a real stop: no step is left, its trail has different ids of the set, all seen, and its counts are as document 01 says

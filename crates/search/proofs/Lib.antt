@@ -2,8 +2,10 @@ pub mod Places
 pub mod Seeing
 pub mod Marking
 pub mod Visiting
+pub mod Choosing
 pub mod Rounds
 pub mod Filling
-pub mod Asked
+pub mod Starting
+pub mod OffLine
 pub mod Finish
 pub mod Told

@@ -4,7 +4,7 @@ use native.Mathlib.Nat.{le-refl, lt-irrefl}
 use native.Mathlib.Omega.{arith}
 use mathlib.Core.Path.{_≡_, refl, sym, _∙_}
 use mathlib.Core.Logic.{⊎-elim}
-use mathlib.Core.Bool.{Bool, true, false, cond, _&&_}
+use mathlib.Core.Bool.{Bool, true, false, _&&_}
 use mathlib.Core.List.{List}
 use lib.ListN.{length, getD, set, length-set}
 use lib.Seq.{getD-set-same, getD-set-other}
@@ -33,7 +33,8 @@ pub part-one : {row flags : List ℕ} {m y : ℕ} → y < length flags → (new 
 part-one {row} {flags} {m} {y} l new q =
     by (eqb (getD flags y 0) 0 && leb (getD row y 0) m) refl
   where
-    more : (next : List ℕ) → length next ≡ length flags → getD next y 0 ≡ markedAt row m flags y → ((z : ℕ) → (z ≡ y → ⊥) → getD next z 0 ≡ getD flags z 0) → Part row m flags y (y + 1) next
+    more : (next : List ℕ) → length next ≡ length flags → getD next y 0 ≡ markedAt row m flags y →
+        ((z : ℕ) → (z ≡ y → ⊥) → getD next z 0 ≡ getD flags z 0) → Part row m flags y (y + 1) next
     more next s here others = record {
       size = s;
       done = λ z a b. let e : z ≡ y = omega arith in rw e here;
@@ -58,7 +59,8 @@ part-join {row} {old} {mid} {new} {m} {a} {b} {c} h k ab bc = record {
 }
 
 -- one more cell
-pub part-step : {row old new : List ℕ} {m a y : ℕ} → Part row m old a y new → a ≤ y → y < length old → (new′ : List ℕ) → new′ ≡ looked row m y new → Part row m old a (y + 1) new′
+pub part-step : {row old new : List ℕ} {m a y : ℕ} → Part row m old a y new → a ≤ y → y < length old → (new′ : List ℕ) → new′ ≡ looked row m y new →
+    Part row m old a (y + 1) new′
 part-step h l u new′ q = part-join h (part-one (omega (arith, h .size)) new′ q) l (omega arith)
 
 -- cells that are all above the threshold, but for those of ids that are seen
@@ -90,9 +92,14 @@ least-one row flags a r q = record { under = λ z l u f. let e : z ≡ a = omega
     here : getD flags a 0 ≡ 0 → r ≤ getD row a 0
     here f = rw (q, f) (le-refl (getD row a 0))
 
-pub least-join : {row flags : List ℕ} {a b k j r s : ℕ} → Least row flags a k r → Least row flags b j s → b ≡ a + k → (t : ℕ) → t ≡ min r s → Least row flags a (k + j) t
+pub least-join : {row flags : List ℕ} {a b k j r s : ℕ} → Least row flags a k r → Least row flags b j s → b ≡ a + k → (t : ℕ) → t ≡ min r s →
+    Least row flags a (k + j) t
 least-join {row} {flags} {a} {b} {k} {j} {r} {s} h g e t q = record {
-  under = λ z l u f. ⊎-elim (λ (w : b ≤ z). omega (arith, g .under z w (omega arith) f)) (λ (w : z < b). omega (arith, h .under z l (omega arith) f)) (le-or-lt b z);
+  under = λ z l u f.
+      ⊎-elim
+      (λ (w : b ≤ z). omega (arith, g .under z w (omega arith) f))
+      (λ (w : z < b). omega (arith, h .under z l (omega arith) f))
+      (le-or-lt b z);
 }
 
 -- a block of 16 cells of a row is within what has a cell or a flag for every id

@@ -1,17 +1,16 @@
 -- One round of each loop over the line, on plain values. Assumes nothing.
-use Prim.Native.Nat.{ℕ, zero, suc, _+_, _-_, _%_, _≤_, _<_}
+use Prim.Native.Nat.{ℕ, suc, _+_, _-_, _%_, _≤_, _<_}
 use native.Mathlib.Nat.{le-refl, lt-irrefl, eq-or-lt-of-le}
 use native.Mathlib.Omega.{arith}
 use native.Mathlib.Numerals.{add-one}
 use mathlib.Core.Path.{_≡_, refl, sym, ap, _∙_}
 use mathlib.Core.Logic.{⊎-elim}
 use mathlib.Core.Bool.{true, false}
-use mathlib.Core.List.{List, [], _∷_, _++_}
+use mathlib.Core.List.{List, _∷_, _++_}
 use lib.ListN.{length, getD, take, drop, set, length-set, length-take, length-drop, length-append, List·getD-append}
 use lib.Seq.{getD-set-same, getD-set-other, getD-take, getD-drop, getD-at, getD-append-add, ext-getD}
 use Rattle.laws.proofs.Tests.{below, le-or-lt}
-use Rattle.laws.proofs.Insert.{lt-or-le}
-use Rattle.search.specs.Line.{waits, Slot, Moved, Shifted, Put, Opened}
+use Rattle.search.specs.Line.{waits, Moved, Shifted, Put, Opened}
 
 -- ---- the place that is free
 
@@ -33,7 +32,8 @@ module _ {old new : List ℕ} {m x at : ℕ} (h : Shifting old m x at new) where
   pub last-kept : 0 < at → getD new (at - 1) 0 ≡ getD old (at - 1) 0
   last-kept l = h .moved .low (at - 1) (omega arith)
 
-  pub shift-step : 0 < at → m < length new → x < getD new (at - 1) 0 → (new′ : List ℕ) → new′ ≡ set new at (getD new (at - 1) 0) → Shifting old m x (at - 1) new′
+  pub shift-step : 0 < at → m < length new → x < getD new (at - 1) 0 → (new′ : List ℕ) → new′ ≡ set new at (getD new (at - 1) 0) →
+      Shifting old m x (at - 1) new′
   shift-step l room g new′ q = record {
     within = omega (arith, h .within);
     larger = λ i a b. ⊎-elim (λ k. h .larger i k b) (λ k. let e : i ≡ at - 1 = omega arith in rw (e, ← last-kept l) g) (le-or-lt at i);
@@ -43,7 +43,10 @@ module _ {old new : List ℕ} {m x at : ℕ} (h : Shifting old m x at new) where
       up = λ i a b.
           ⊎-elim
           (λ k. getD-set-other new at (i + 1) _ 0 (λ s. lt-irrefl i (omega arith)) ∙ h .moved .up i k b)
-          (λ k. let e : i ≡ at - 1 = omega arith in let f : at - 1 + 1 ≡ at = omega arith in rw (e, f) (getD-set-same new at _ 0 (omega (arith, h .within)) ∙ last-kept l))
+          (λ k.
+          let e : i ≡ at - 1 = omega arith in
+          let f : at - 1 + 1 ≡ at = omega arith in
+          rw (e, f) (getD-set-same new at _ 0 (omega (arith, h .within)) ∙ last-kept l))
           (le-or-lt at i);
     });
   }
@@ -98,17 +101,18 @@ put-there old new new′ m x r room h q = record {
     cells : (i : ℕ) → i < m + 1 → getD (set new r x) i 0 ≡ getD (take r (take m old) ++ (x ∷ drop r (take m old))) i 0
     cells i l =
         ⊎-elim
-        (λ (k : i < r).
-        getD-set-other new r i x 0 (λ s. lt-irrefl i (omega arith)) ∙ h .moved .low i k ∙ sym (at-low old m x r room (h .slot .within) i k))
         (λ (k : r ≤ i). ⊎-elim
         (λ (e : r ≡ i).
-        rw (← e) (getD-set-same new r x 0 (omega (arith, h .moved .size, h .slot .within)) ∙ sym (getD-at (take r (take m old)) x _ 0 r (front old m x r room (h .slot .within)))))
+        let at-r = getD-at (take r (take m old)) x _ 0 r (front old m x r room (h .slot .within)) in
+        rw (← e) (getD-set-same new r x 0 (omega (arith, h .moved .size, h .slot .within)) ∙ sym at-r))
         (λ (g : r < i).
         let f : i ≡ r + (i - r - 1) + 1 = omega arith in
         getD-set-other new r i x 0 (λ s. lt-irrefl i (omega arith))
         ∙ rw f (h .moved .up (r + (i - r - 1)) (omega arith) (omega arith) ∙ sym (at-up old m x r room (h .slot .within) (i - r - 1) (omega arith))))
         (eq-or-lt-of-le k))
-        (lt-or-le i r)
+        (λ (k : i < r).
+        getD-set-other new r i x 0 (λ s. lt-irrefl i (omega arith)) ∙ h .moved .low i k ∙ sym (at-low old m x r room (h .slot .within) i k))
+        (le-or-lt r i)
 
 -- ---- the first place whose id waits
 

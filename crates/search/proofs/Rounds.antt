@@ -5,67 +5,28 @@ use native.Mathlib.Omega.{arith}
 use native.Mathlib.Numerals.{add-one}
 use mathlib.Core.Path.{_≡_, refl, sym, ap, _∙_}
 use mathlib.Core.Logic.{⊎-elim}
-use mathlib.Core.Bool.{Bool, true, false, cond, not, _&&_}
-use mathlib.Core.Option.{Option, none, some}
+use mathlib.Core.Bool.{true, false, not, _&&_}
+use mathlib.Core.Option.{none, some}
 use mathlib.Core.List.{List, [], _∷_, _++_, map}
 use lib.ListN.{length, getD, set, drop, length-append, length-set}
 use lib.Seq.{drop-cons, set-at, append-snoc}
 use lib.Dec.{ltb, leb, eqb}
-use borrow.Author.Tests.{ltb-true, lt-ltb, lt-leb, le-leb, ne-eqb}
-use Rattle.rules.specs.Order.{keyed, count, on, first, firsts, Ordered}
+use borrow.Author.Tests.{ltb-true, lt-ltb, ne-eqb}
+use Rattle.rules.specs.Order.{keyed, on}
 use Rattle.rules.specs.Labels.{edgeIn}
-use Rattle.rules.specs.Search.{State, start, waiting, visit, before, next, choice, run, search}
-use Rattle.laws.proofs.Keyed.{keyed-ordered}
-use Rattle.laws.proofs.Tests.{both, and-l, and-r, and-i, count-le, count-same, le-or-lt, never}
+use Rattle.rules.specs.Search.{State, start, waiting, visit, next, choice, run, search}
+use Rattle.laws.proofs.Tests.{and-l, and-r, and-i, count-le, count-same, le-or-lt, never}
 use Rattle.laws.proofs.Order.{first-some, firsts-same}
-use Rattle.laws.proofs.Line.{line-whole, place-before, first-on, none-on}
-use Rattle.laws.proofs.Search.{waits-seen, choice-none, choice-some, choice-same, visits, visits-room, run-next, run-done, run-sound}
+use Rattle.laws.proofs.Search.{waits-seen, choice-same, visits, visits-room, run-next, run-done, run-sound}
 use Rattle.search.specs.Line.{waits, sees}
 use Rattle.search.specs.Seen.{Lined, Visited, goesOn, soughtBy, Explored}
-use Rattle.search.proofs.Seeing.{inLine, line-size, line-seen, line-id}
-use Rattle.search.proofs.Visiting.{Holds, waits-sees, visit-holds}
-
--- ---- the next visit, off the line
-
-module _ (n : ℕ) (D : ℕ → ℕ) (small : n ≤ 128) where
-  ordered : Ordered n (keyed D)
-  ordered = keyed-ordered D n small
-
-  module _ {flags line : List ℕ} {seen from : ℕ} (h : Lined n (keyed D) flags line seen from) (width : ℕ) where
-    passed-id : (i : ℕ) → i < from → waits flags (getD (inLine n D small flags) i 0) ≡ false
-    passed-id i l = rw (← line-id n D small h i (omega (arith, h .from-in))) (h .passed i l)
-
-    -- the point that waits at the place `from` is the first that waits, and `from` seen points come before it
-    pub choice-visit : from < seen → from < width → waits flags (getD line from 0 % 128) ≡ true → choice n (keyed D) width (sees flags) (waits flags) ≡ some (getD line from 0 % 128)
-    choice-visit l g w =
-        let x : ℕ = getD (inLine n D small flags) from 0 in
-        let e : getD line from 0 % 128 ≡ x = line-id n D small h from l in
-        let size = line-size n D small h in
-        let whole = line-whole (keyed D) n ordered (sees flags) in
-        let f : first (keyed D) n (waits flags) ≡ some x =
-        first-on (keyed D) n ordered (inLine n D small flags) (sees flags) (waits flags) whole (λ y ly t. waits-sees flags y t) from (omega arith) passed-id (rw e at w) in
-        let b : before n (keyed D) (sees flags) x ≡ from = place-before (keyed D) n ordered (inLine n D small flags) (sees flags) whole from (omega arith) in
-        choice-some n (keyed D) width (sees flags) (waits flags) f ∙ rw (b, lt-leb width from g) (ap some (sym e))
-
-    pub choice-full : from < seen → width ≤ from → waits flags (getD line from 0 % 128) ≡ true → choice n (keyed D) width (sees flags) (waits flags) ≡ none
-    choice-full l g w =
-        let x : ℕ = getD (inLine n D small flags) from 0 in
-        let e : getD line from 0 % 128 ≡ x = line-id n D small h from l in
-        let size = line-size n D small h in
-        let whole = line-whole (keyed D) n ordered (sees flags) in
-        let f : first (keyed D) n (waits flags) ≡ some x =
-        first-on (keyed D) n ordered (inLine n D small flags) (sees flags) (waits flags) whole (λ y ly t. waits-sees flags y t) from (omega arith) passed-id (rw e at w) in
-        let b : before n (keyed D) (sees flags) x ≡ from = place-before (keyed D) n ordered (inLine n D small flags) (sees flags) whole from (omega arith) in
-        choice-some n (keyed D) width (sees flags) (waits flags) f ∙ rw (b, le-leb width from g)
-
-    pub choice-done : seen ≤ from → choice n (keyed D) width (sees flags) (waits flags) ≡ none
-    choice-done l =
-        let size = line-size n D small h in
-        choice-none n (keyed D) width (sees flags) (waits flags)
-        (none-on (keyed D) n ordered (inLine n D small flags) (sees flags) (waits flags) (line-whole (keyed D) n ordered (sees flags)) (λ y ly t. waits-sees flags y t) (λ i k. passed-id i (omega arith)))
+use Rattle.search.proofs.Seeing.{line-size, line-seen, line-id}
+use Rattle.search.proofs.Visiting.{Holds, visit-holds}
+use Rattle.search.proofs.Choosing.{choice-visit, choice-full, choice-done}
 
 -- what is chosen by the flags is the next visit
-next-holds : (n : ℕ) (key : ℕ → ℕ) (width : ℕ) (s : State) (flags : List ℕ) → Holds n s flags → next n key width s ≡ choice n key width (sees flags) (waits flags)
+next-holds : (n : ℕ) (key : ℕ → ℕ) (width : ℕ) (s : State) (flags : List ℕ) → Holds n s flags →
+    next n key width s ≡ choice n key width (sees flags) (waits flags)
 unfolding next
 next-holds n key width s flags h = choice-same n key width (s .seen) (sees flags) (waiting s) (waits flags) (h .seen) (h .waits)
 
@@ -82,7 +43,8 @@ fresh-one : (f : ℕ) → f ≤ 1 → not (eqb f 0) ≡ true → eqb f 1 ≡ tru
 fresh-one f h t = rw (fresh-waits f h) at (and-i (not (eqb f 0)) true t refl)
 
 -- one more id after the trail t, in front of what the buffer held
-extend : (t trail trail′ trail₀ : List ℕ) (i x : ℕ) → length t ≡ i → i < length trail₀ → trail ≡ t ++ drop i trail₀ → trail′ ≡ set trail i x → trail′ ≡ t ++ (x ∷ []) ++ drop (i + 1) trail₀
+extend : (t trail trail′ trail₀ : List ℕ) (i x : ℕ) → length t ≡ i → i < length trail₀ → trail ≡ t ++ drop i trail₀ → trail′ ≡ set trail i x →
+    trail′ ≡ t ++ (x ∷ []) ++ drop (i + 1) trail₀
 extend t trail trail′ trail₀ i x len l w q =
     q ∙ ap (λ l. set l i x) w ∙ rw (add-one, drop-cons trail₀ i 0, append-snoc) (set-at t (getD trail₀ i 0) (drop (suc i) trail₀) x i len)
 
@@ -107,7 +69,8 @@ module _ (n : ℕ) (D : ℕ → ℕ) (table : List ℕ) (m width : ℕ) (flags�
     pub waits-there : from < seen → waits flags (getD line from 0 % 128) ≡ true
 
   module _ (small : n ≤ 128) where
-    pub round-start : {line₀ : List ℕ} {seen from : ℕ} → ((y : ℕ) → getD flags₀ y 0 ≤ 1) → Lined n (keyed D) flags₀ line₀ seen from → Round flags₀ line₀ trail₀ seen from 0
+    pub round-start : {line₀ : List ℕ} {seen from : ℕ} → ((y : ℕ) → getD flags₀ y 0 ≤ 1) → Lined n (keyed D) flags₀ line₀ seen from →
+        Round flags₀ line₀ trail₀ seen from 0
     unfolding run start
     round-start {line₀} {seen} {from} fresh h = record {
       tsize = refl;
@@ -125,10 +88,13 @@ module _ (n : ℕ) (D : ℕ → ℕ) (table : List ℕ) (m width : ℕ) (flags�
         waiting-place : from < seen
         waiting-place = ltb-true from seen (and-l (ltb from seen) (ltb from width) go)
 
+        in-width : from < width
+        in-width = ltb-true from width (and-r (ltb from seen) (ltb from width) go)
+
         pub next-is : next n (keyed D) width (after i) ≡ some (getD line from 0 % 128)
         next-is =
             next-holds n (keyed D) width (after i) flags (r .holds)
-            ∙ choice-visit n D small (r .lined) width waiting-place (ltb-true from width (and-r (ltb from seen) (ltb from width) go)) (r .waits-there waiting-place)
+            ∙ choice-visit n D small (r .lined) width waiting-place in-width (r .waits-there waiting-place)
 
         pub next-waits : (getD line from 0 % 128 < n) × (waits flags (getD line from 0 % 128) ≡ true)
         next-waits = (rw (line-id n D small (r .lined) from waiting-place) (line-seen n D small (r .lined) from waiting-place .0), r .waits-there waiting-place)
@@ -139,9 +105,13 @@ module _ (n : ℕ) (D : ℕ → ℕ) (table : List ℕ) (m width : ℕ) (flags�
         -- there is room on the trail
         pub room : i < n
         room =
-            omega (arith, r .long, visits-room n (keyed D) (edgeIn table n m) width (after i) (run-sound n (keyed D) (edgeIn table n m) width i (sees flags₀)) next-is)
+            let edge = edgeIn table n m in
+            let sound = run-sound n (keyed D) edge width i (sees flags₀) in
+            omega (arith, r .long, visits-room n (keyed D) edge width (after i) sound next-is)
 
-        pub round-step : {flags′ line′ trail′ : List ℕ} {seen′ from′ : ℕ} → n ≤ length trail₀ → Visited n (keyed D) table m (getD line from 0 % 128) flags flags′ line′ seen′ from′ → trail′ ≡ set trail i (getD line from 0 % 128) → Round flags′ line′ trail′ seen′ from′ (i + 1)
+        pub round-step : {flags′ line′ trail′ : List ℕ} {seen′ from′ : ℕ} → n ≤ length trail₀ →
+            Visited n (keyed D) table m (getD line from 0 % 128) flags flags′ line′ seen′ from′ → trail′ ≡ set trail i (getD line from 0 % 128) →
+            Round flags′ line′ trail′ seen′ from′ (i + 1)
         unfolding visit
         round-step {flags′} {line′} {trail′} {seen′} {from′} tl v q =
             let x : ℕ = getD line from 0 % 128 in

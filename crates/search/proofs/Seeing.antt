@@ -1,17 +1,17 @@
 -- A point becomes seen: its flag and its key in the line. Assumes nothing.
-use Prim.Native.Nat.{ℕ, zero, suc, _+_, _-_, _*_, _%_, _≤_, _<_, min}
-use native.Mathlib.Nat.{lt-irrefl, eq-or-lt-of-le}
+use Prim.Native.Nat.{ℕ, _+_, _-_, _*_, _%_, _≤_, _<_, min}
+use native.Mathlib.Nat.{eq-or-lt-of-le}
 use native.Mathlib.Omega.{arith}
-use mathlib.Core.Path.{_≡_, refl, sym, ap, _∙_, subst}
+use mathlib.Core.Path.{_≡_, sym, ap, _∙_, subst}
 use mathlib.Core.Logic.{⊎-elim}
-use mathlib.Core.Bool.{Bool, true, false, not, _||_}
-use mathlib.Core.List.{List, [], _∷_, _++_, map}
+use mathlib.Core.Bool.{true, false}
+use mathlib.Core.List.{List, map}
 use lib.Dec.{eqb}
 use lib.IntN.{ℤ}
-use lib.ListN.{length, getD, take, drop, set, length-set, length-map, List·getD-append, length-take}
+use lib.ListN.{length, getD, take, set, length-set, length-map, List·getD-append, length-take}
 use lib.Seq.{getD-set-same, getD-set-other, getD-take}
-use borrow.Author.Tests.{eqb-true, eqb-false, eq-eqb, ne-eqb, not-true}
-use Rattle.rules.specs.Order.{keyed, count, firsts, Ordered}
+use borrow.Author.Tests.{eqb-true, eqb-false}
+use Rattle.rules.specs.Order.{keyed, firsts, Ordered}
 use Rattle.rules.specs.Points.{dist, away}
 use Rattle.rules.specs.Entries.{pointOf}
 use Rattle.laws.specs.Line.{adding, Place}
@@ -19,16 +19,10 @@ use Rattle.laws.proofs.Refusals.{set-ok}
 use Rattle.laws.proofs.Tests.{both, never, count-le, count-one, count-lt}
 use Rattle.laws.proofs.Order.{firsts-same}
 use Rattle.laws.proofs.Keyed.{keyed-ordered, keyed-id}
-use Rattle.laws.proofs.Line.{Whole, listed, whole-rising, line-whole, line-length, line-insert}
-use Rattle.search.specs.Line.{waits, sees, Slot, Put}
+use Rattle.laws.proofs.Line.{Whole, getD-map, listed, whole-rising, line-whole, line-length, line-insert}
+use Rattle.search.specs.Line.{sees, Slot, Put}
 use Rattle.space.proofs.Measured.{measured}
 use Rattle.search.specs.Seen.{Given, keyOf, Lined}
-
--- an element of a list of keys
-pub getD-keys : (key : ℕ → ℕ) (l : List ℕ) (i : ℕ) → i < length l → getD (map key l) i 0 ≡ key (getD l i 0)
-getD-keys key [] i l = absurd (lt-irrefl 0 (omega arith))
-getD-keys key (x ∷ l) zero h = refl
-getD-keys key (x ∷ l) (suc i) h = getD-keys key l i (omega arith)
 
 module _ (n : ℕ) (D : ℕ → ℕ) (small : n ≤ 128) where
   ordered : Ordered n (keyed D)
@@ -48,7 +42,7 @@ module _ (n : ℕ) (D : ℕ → ℕ) (small : n ≤ 128) where
     -- what stands at a place of the line: the key of an id that is seen
     pub line-key : (i : ℕ) → i < seen → getD line i 0 ≡ keyed D (getD (inLine flags) i 0)
     line-key i l =
-        sym (getD-take seen line i 0 l) ∙ ap (λ (t : List ℕ). getD t i 0) (h .keys) ∙ getD-keys (keyed D) (inLine flags) i (omega (arith, line-size))
+        sym (getD-take seen line i 0 l) ∙ ap (λ (t : List ℕ). getD t i 0) (h .keys) ∙ getD-map (keyed D) (inLine flags) i (omega (arith, line-size))
 
     pub line-seen : (i : ℕ) → i < seen → (getD (inLine flags) i 0 < n) × (sees flags (getD (inLine flags) i 0) ≡ true)
     line-seen i l = listed (keyed D) n ordered (inLine flags) (sees flags) whole i (omega (arith, line-size))
@@ -95,7 +89,7 @@ module _ (n : ℕ) (D : ℕ → ℕ) (small : n ≤ 128) where
           short i b = omega (arith, b, line-size, length-map (inLine flags) (keyed D))
 
           key-at : (i : ℕ) → i < seen → getD (map (keyed D) (inLine flags)) i 0 ≡ getD line i 0
-          key-at i l = getD-keys (keyed D) (inLine flags) i (omega (arith, line-size)) ∙ sym (line-key i l)
+          key-at i l = getD-map (keyed D) (inLine flags) i (omega (arith, line-size)) ∙ sym (line-key i l)
 
           prev : (i : ℕ) → i < r → i ≤ r - 1
           prev i l = omega arith
@@ -108,7 +102,7 @@ module _ (n : ℕ) (D : ℕ → ℕ) (small : n ≤ 128) where
               (λ (q : i ≡ r - 1). rw (q, key-at (r - 1) lj) top)
               (λ (l : i < r - 1).
               let up = whole-rising (keyed D) n ordered (inLine flags) (sees flags) whole i (r - 1) l (omega (arith, line-size)) in
-              rw (getD-keys (keyed D) (inLine flags) i (omega (arith, line-size))) (omega (arith, up, top, line-key (r - 1) lj)))
+              rw (getD-map (keyed D) (inLine flags) i (omega (arith, line-size))) (omega (arith, up, top, line-key (r - 1) lj)))
               (eq-or-lt-of-le (prev i a))
 
       pub see-lined : {line′ : List ℕ} {r : ℕ} → Put line seen (keyed D id) r line′ → Lined n (keyed D) (set flags id 1) line′ (seen + 1) (min r from)
@@ -120,17 +114,25 @@ module _ (n : ℕ) (D : ℕ → ℕ) (small : n ≤ 128) where
             ∙ rw (h .keys) (sym (line-insert (keyed D) n ordered (sees flags) id lid sees-old r (place (p .slot))))
             ∙ ap (map (keyed D)) (firsts-same (keyed D) n n (adding id (sees flags)) (sees (set flags id 1)) (λ y l. added y));
         from-in = omega (arith, h .from-in);
-        passed = λ i l. rw (kept i (omega arith) (inside i l), getD-set-other flags id (getD line i 0 % 128) 1 0 (other i (inside i l))) (h .passed i (omega arith));
+        passed = λ i l.
+            rw
+            (kept i (omega arith) (inside i l), getD-set-other flags id (getD line i 0 % 128) 1 0 (other i (inside i l)))
+            (h .passed i (omega arith));
       }
         where
           inside : (i : ℕ) → i < min r from → i < seen
           inside i l = omega (arith, h .from-in)
 
+          -- the line has a cell for each seen id
+          seen-fits : seen ≤ length line
+          seen-fits =
+              omega (arith, line-size, length-map (inLine flags) (keyed D), ap length (h .keys), length-take seen line)
+
           kept : (i : ℕ) → i < r → i < seen → getD line′ i 0 ≡ getD line i 0
           kept i a b =
               sym (getD-take (seen + 1) line′ i 0 (omega arith))
               ∙ ap (λ (t : List ℕ). getD t i 0) (p .keys)
-              ∙ List·getD-append (take r (take seen line)) _ 0 i (simp (length-take, length-take) (omega (arith, h .line-size, length-map (inLine flags) (keyed D), line-size, ap length (h .keys), length-take seen line)))
+              ∙ List·getD-append (take r (take seen line)) _ 0 i (simp (length-take, length-take) (omega (arith, seen-fits)))
               ∙ getD-take r (take seen line) i 0 a
               ∙ getD-take seen line i 0 b
 
@@ -148,12 +150,15 @@ module _ {n d : ℕ} {vectors query : List ℤ} (g : Given n d vectors query) wh
   unfolding keyed
   measured-key id m l e = ap (λ (x : ℕ). x * 128 + id) (e ∙ measured n d vectors (g .set-given) query (g .query-is) id l)
 
-  pub see-holds : {flags line line′ : List ℕ} {seen from : ℕ} → Lined n (keyOf d vectors query) flags line seen from → (id m key r from′ : ℕ) → id < n → getD flags id 0 ≡ 0 → m ≡ dist (take 64 (pointOf n d vectors id)) (take 64 query) → key ≡ m * 128 + id → Put line seen key r line′ → from′ ≡ min r from → Lined n (keyOf d vectors query) (set flags id 1) line′ (seen + 1) from′
+  pub see-holds : {flags line line′ : List ℕ} {seen from : ℕ} → Lined n (keyOf d vectors query) flags line seen from → (id m key r from′ : ℕ) →
+      id < n → getD flags id 0 ≡ 0 → m ≡ dist (take 64 (pointOf n d vectors id)) (take 64 query) → key ≡ m * 128 + id → Put line seen key r line′ →
+      from′ ≡ min r from → Lined n (keyOf d vectors query) (set flags id 1) line′ (seen + 1) from′
   see-holds {line = line} {line′ = line′} {seen = seen} h id m key r from′ l f e q p w =
       rw w (see-lined n (away d vectors query) given-small h id l f (subst (λ (k : ℕ). Put line seen k r line′) (q ∙ measured-key id m l e) p))
 
   -- there is room in the line for one more
-  pub line-room : {flags line : List ℕ} {seen from : ℕ} → Lined n (keyOf d vectors query) flags line seen from → (id : ℕ) → id < n → getD flags id 0 ≡ 0 → seen < length line
+  pub line-room : {flags line : List ℕ} {seen from : ℕ} → Lined n (keyOf d vectors query) flags line seen from → (id : ℕ) → id < n →
+      getD flags id 0 ≡ 0 → seen < length line
   line-room {flags} h id l f =
       omega (arith, h .many, h .line-size, given-small, count-lt n (sees flags) id l (rw f))
 

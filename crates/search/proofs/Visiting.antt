@@ -1,5 +1,5 @@
 -- A visit: the flags stand for a state of the search, and a visit changes both alike. Assumes nothing.
-use Prim.Native.Nat.{ℕ, zero, suc, _+_, _-_, _*_, _%_, _≤_, _<_}
+use Prim.Native.Nat.{ℕ, _+_, _-_, _*_, _≤_, _<_}
 use native.Mathlib.Nat.{lt-irrefl, mul-le-mul-right}
 use native.Mathlib.Omega.{arith}
 use mathlib.Core.Path.{_≡_, refl, sym, ap, _∙_}
@@ -10,8 +10,8 @@ use lib.Dec.{leb, eqb}
 use lib.ListN.{length, getD, set, take, drop, length-set}
 use lib.Seq.{getD-take, getD-drop, getD-set-same, getD-set-other}
 use borrow.Author.Tests.{eqb-true, eq-eqb, ne-eqb, eqb-false}
-use Rattle.rules.specs.Order.{keyed, on, count, firsts}
-use Rattle.rules.specs.Search.{State, start, waiting, visit}
+use Rattle.rules.specs.Order.{on, count}
+use Rattle.rules.specs.Search.{State, waiting, visit}
 use Rattle.laws.proofs.Tests.{both, never, le-or-lt, and-false, or-r, or-false, count-lt, count-same}
 use Rattle.laws.proofs.Order.{firsts-same}
 use Rattle.laws.proofs.Search.{on-snoc}
@@ -75,7 +75,9 @@ part-cell : (table : List ℕ) (a n y : ℕ) → y < n → getD (take (a + n - a
 part-cell table a n y l = getD-take (a + n - a) (drop a table) y 0 (omega arith) ∙ getD-drop a table y 0
 
 -- the place where the next one waits
-pub visited : {n : ℕ} {key : ℕ → ℕ} {table flags flags′ line′ : List ℕ} {m x seen from from′ : ℕ} → Marked n (take (x * n + n - x * n) (drop (x * n) table)) m (set flags x 2) flags′ → Lined n key flags′ line′ seen from → Opened line′ flags′ seen from from′ → Visited n key table m x flags flags′ line′ seen from′
+pub visited : {n : ℕ} {key : ℕ → ℕ} {table flags flags′ line′ : List ℕ} {m x seen from from′ : ℕ} →
+    Marked n (take (x * n + n - x * n) (drop (x * n) table)) m (set flags x 2) flags′ → Lined n key flags′ line′ seen from →
+    Opened line′ flags′ seen from from′ → Visited n key table m x flags flags′ line′ seen from′
 visited {n} {table = table} {x = x} {from = from} {from′ = from′} k h o = record {
   row = take (x * n + n - x * n) (drop (x * n) table);
   cells = part-cell table (x * n) n;
@@ -100,14 +102,16 @@ mark-seen f false true q = rw q (ap not (sym q))
 mark-seen f e false q = rw q (ap not (sym q))
 
 -- o says that the id is on the trail
-mark-waits : (f : ℕ) (e o a : Bool) → eqb f 0 ≡ a → (o ≡ true → not (eqb f 0) ≡ true) → not (eqb f 0) && not o ≡ eqb f 1 → (not (eqb f 0) || e) && not o ≡ eqb (cond (eqb f 0 && e) 1 f) 1
+mark-waits : (f : ℕ) (e o a : Bool) → eqb f 0 ≡ a → (o ≡ true → not (eqb f 0) ≡ true) → not (eqb f 0) && not o ≡ eqb f 1 →
+    (not (eqb f 0) || e) && not o ≡ eqb (cond (eqb f 0 && e) 1 f) 1
 mark-waits f e true true q s w = absurd (false≢true (rw q at (s refl)))
 mark-waits f true false true q s w = rw q
 mark-waits f false false true q s w = rw q (rw q at w)
 mark-waits f e o false q s w = rw q (rw q at w)
 
 module _ (n : ℕ) (edge : ℕ → ℕ → Bool) (row : List ℕ) (m x : ℕ) (s : State) (flags new : List ℕ) (len : x < length flags) (lx : x < n)
-    (sx : s .seen x ≡ true) (sound : (y : ℕ) → on (s .trail) y ≡ true → s .seen y ≡ true) (same : (y : ℕ) → y < n → (y ≡ x → ⊥) → edge x y ≡ leb (getD row y 0) m)
+    (sx : s .seen x ≡ true) (sound : (y : ℕ) → on (s .trail) y ≡ true → s .seen y ≡ true)
+    (same : (y : ℕ) → y < n → (y ≡ x → ⊥) → edge x y ≡ leb (getD row y 0) m)
     (marked : Marked n row m (set flags x 2) new) (h : Holds n s flags) where
   -- the flag of x, and that of another id
   new-self : getD new x 0 ≡ 2
@@ -135,8 +139,10 @@ module _ (n : ℕ) (edge : ℕ → ℕ → Bool) (row : List ℕ) (m x : ℕ) (s
         (λ e.
         let d = eqb-false y x e in
         let off : on (s .trail ++ (x ∷ [])) y ≡ on (s .trail) y = on-snoc (s .trail) x y ∙ rw (ne-eqb x y (λ q. d (sym q))) (or-false (on (s .trail) y)) in
+        let flag = getD flags y 0 in
+        let stays = rw (h .seen y l) at (h .waits y l) in
         rw
         (new-other y l d, h .seen y l, same y l d, off)
-        (mark-waits (getD flags y 0) (leb (getD row y 0) m) (on (s .trail) y) (eqb (getD flags y 0) 0) refl (λ o. sym (h .seen y l) ∙ sound y o) (rw (h .seen y l) at (h .waits y l))))
+        (mark-waits flag (leb (getD row y 0) m) (on (s .trail) y) (eqb flag 0) refl (λ o. sym (h .seen y l) ∙ sound y o) stays))
         (both (eqb y x));
   }

@@ -32,7 +32,8 @@ fn visit(
     requires lined { ⌜ Lined n (keyOf d (now vectors) (now query)) (now flags) (now line) (front .seen) (front .from) ⌝ }
     requires table { ⌜ length (now table) ≡ n * n ⌝ }
     requires there { ⌜ (x < n) × (waits (now flags) x ≡ true) ⌝ }
-    ensures { λ r. ⌜ Visited n (keyOf d (now (vectors .entry)) (now (query .entry))) (now (table .entry)) threshold x (now (flags .entry)) (now (flags .exit)) (now (line .exit)) (r .seen) (r .from) ⌝ }
+    ensures { λ r. ⌜ Visited n (keyOf d (now (vectors .entry)) (now (query .entry))) (now (table .entry)) threshold x
+        (now (flags .entry)) (now (flags .exit)) (now (line .exit)) (r .seen) (r .from) ⌝ }
 {
     flags[x] = 2;
     let a = x * n;
@@ -82,7 +83,8 @@ pub(crate) fn explore(
     requires lined { ⌜ Lined n (keyOf d (now vectors) (now query)) (now flags) (now line) (start .seen) (start .from) ⌝ }
     requires fresh { ⌜ ((y : ℕ) → getD (now flags) y 0 ≤ 1) ⌝ }
     requires table { ⌜ (length (now table) ≡ n * n) × (n ≤ length (now trail)) ⌝ }
-    ensures { λ r. ⌜ Explored n (keyOf d (now (vectors .entry)) (now (query .entry))) (now (table .entry)) threshold width (now (flags .entry)) (now (trail .entry)) (now (line .exit)) (now (trail .exit)) (r .seen) (r .walked) ⌝ }
+    ensures { λ r. ⌜ Explored n (keyOf d (now (vectors .entry)) (now (query .entry))) (now (table .entry)) threshold width
+        (now (flags .entry)) (now (trail .entry)) (now (line .exit)) (now (trail .exit)) (r .seen) (r .walked) ⌝ }
 {
     let mut front = start;
     let mut walked = 0;

@@ -110,10 +110,14 @@ pub fn search(
     distances: &mut [u32],
     trail: &mut [u16],
 ) -> Searched
-    ensures answer { λ r. ⌜ told r ≡ searchAnswer (ask n d (now (vectors .entry)) (now (table .entry)) (now (query .entry)) start threshold width k) (now (ids .entry)) (now (distances .entry)) (now (trail .entry)) ⌝ }
-    ensures ids { λ r. ⌜ now (ids .exit) ≡ idsAfter (ask n d (now (vectors .entry)) (now (table .entry)) (now (query .entry)) start threshold width k) (now (ids .entry)) (now (distances .entry)) (now (trail .entry)) ⌝ }
-    ensures distances { λ r. ⌜ now (distances .exit) ≡ distancesAfter (ask n d (now (vectors .entry)) (now (table .entry)) (now (query .entry)) start threshold width k) (now (ids .entry)) (now (distances .entry)) (now (trail .entry)) ⌝ }
-    ensures trail { λ r. ⌜ now (trail .exit) ≡ trailAfter (ask n d (now (vectors .entry)) (now (table .entry)) (now (query .entry)) start threshold width k) (now (ids .entry)) (now (distances .entry)) (now (trail .entry)) ⌝ }
+    ensures answer { λ r. ⌜ told r ≡ searchAnswer (ask n d (now (vectors .entry)) (now (table .entry)) (now (query .entry)) start threshold width k)
+        (now (ids .entry)) (now (distances .entry)) (now (trail .entry)) ⌝ }
+    ensures ids { λ r. ⌜ now (ids .exit) ≡ idsAfter (ask n d (now (vectors .entry)) (now (table .entry)) (now (query .entry)) start threshold width k)
+        (now (ids .entry)) (now (distances .entry)) (now (trail .entry)) ⌝ }
+    ensures distances { λ r. ⌜ now (distances .exit) ≡ distancesAfter (ask n d (now (vectors .entry)) (now (table .entry)) (now (query .entry)) start threshold width k)
+        (now (ids .entry)) (now (distances .entry)) (now (trail .entry)) ⌝ }
+    ensures trail { λ r. ⌜ now (trail .exit) ≡ trailAfter (ask n d (now (vectors .entry)) (now (table .entry)) (now (query .entry)) start threshold width k)
+        (now (ids .entry)) (now (distances .entry)) (now (trail .entry)) ⌝ }
 {
     let refusal = search_refusal(
         n,

@@ -32,7 +32,8 @@ pub square-le : (g : ℕ) → g ≤ 255 → g * g ≤ 65025
 square-le g h = mul-le-mul h h
 
 -- the pair at i, whose coordinates are g apart
-pub pairs-one : (d : ℤ) (i : ℕ) (a b : List ℤ) (x y : ℤ) {g : ℕ} → i < length a → i < length b → x ≡ getD a i d → y ≡ getD b i d → g ≡ natAbs (x -ℤ y) → g ≤ 255 → Pairs a b i 1 (g * g)
+pub pairs-one : (d : ℤ) (i : ℕ) (a b : List ℤ) (x y : ℤ) {g : ℕ} → i < length a → i < length b → x ≡ getD a i d → y ≡ getD b i d →
+    g ≡ natAbs (x -ℤ y) → g ≤ 255 → Pairs a b i 1 (g * g)
 unfolding dist
 pairs-one d i a b x y h k p q e l = record {
   is = rw (drop-cons a i d h, drop-cons b i d k, e, p, q) (omega arith);

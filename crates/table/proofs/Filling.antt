@@ -51,7 +51,8 @@ elsewhere i j u v lj lv d e = d (omega arith, omega arith)
 pub begun-none : {δ : ℕ → ℕ → ℕ} {u : ℕ} {b : List ℕ} → Begun δ u 0 b
 begun-none = record { there = λ j l. absurd (lt-irrefl 0 (omega (arith, l))); back = λ j l. absurd (lt-irrefl 0 (omega (arith, l))) }
 
-module _ {δ : ℕ → ℕ → ℕ} {u v x : ℕ} {b : List ℕ} (filled : Filled δ u b) (begun : Begun δ u v b) (lu : u < 128) (lv : v ≤ u) (e : x ≡ δ u v) (f : x ≡ δ v u) (small : x ≤ 4161600) where
+module _ {δ : ℕ → ℕ → ℕ} {u v x : ℕ} {b : List ℕ} (filled : Filled δ u b) (begun : Begun δ u v b) (lu : u < 128) (lv : v ≤ u) (e : x ≡ δ u v)
+    (f : x ≡ δ v u) (small : x ≤ 4161600) where
   kept : (i j y : ℕ) → j < 128 → ((i ≡ u) × (j ≡ v) → ⊥) → ((i ≡ v) × (j ≡ u) → ⊥) → Entry b i j y → Entry (Put b u v x) i j y
   kept i j y l p q old = record {
     is = put-other b u v x i j (elsewhere i j u v l (omega arith) p) (elsewhere i j v u l lu q) ∙ old .is;
@@ -79,7 +80,8 @@ module _ {δ : ℕ → ℕ → ℕ} {u v x : ℕ} {b : List ℕ} (filled : Fille
         (below (rw add-one at l));
   }
 
-pub fill-turn : {δ : ℕ → ℕ → ℕ} {u v x : ℕ} {b b′ : List ℕ} → Filled δ u b → Begun δ u v b → u < 128 → v ≤ u → x ≡ δ u v → x ≡ δ v u → x ≤ 4161600 → b′ ≡ Put b u v x → Filled δ u b′ × Begun δ u (v + 1) b′
+pub fill-turn : {δ : ℕ → ℕ → ℕ} {u v x : ℕ} {b b′ : List ℕ} → Filled δ u b → Begun δ u v b → u < 128 → v ≤ u → x ≡ δ u v → x ≡ δ v u → x ≤ 4161600 →
+    b′ ≡ Put b u v x → Filled δ u b′ × Begun δ u (v + 1) b′
 fill-turn filled begun lu lv e f small p = (rw p (filled-more filled begun lu lv e f small), rw p (begun-more filled begun lu lv e f small))
 
 -- the whole row of u
@@ -102,6 +104,7 @@ unfolding apart
 apart-comm d vectors u v = dist-comm (coordinates d vectors u) (coordinates d vectors v)
 
 -- what is measured from the point u to the point v
-pub pair-is : (n d : ℕ) (vectors p : List ℤ) (u v x : ℕ) → setRefusal n d (length vectors) ≡ 0 → u < n → v < n → p ≡ pointOf n d vectors u → x ≡ dist (take 64 (pointOf n d vectors v)) (take 64 p) → x ≡ apart d vectors v u
+pub pair-is : (n d : ℕ) (vectors p : List ℤ) (u v x : ℕ) → setRefusal n d (length vectors) ≡ 0 → u < n → v < n → p ≡ pointOf n d vectors u →
+    x ≡ dist (take 64 (pointOf n d vectors v)) (take 64 p) → x ≡ apart d vectors v u
 pair-is n d vectors p u v x given lu lv e f =
     f ∙ ap (λ (q : List ℤ). dist (take 64 (pointOf n d vectors v)) (take 64 q)) e ∙ between-points n d vectors given v u lv lu

@@ -26,9 +26,12 @@ both-tests false true t low = refl
 both-tests false false t low = refl
 
 -- the two choices, one after the other
-pub further-is : (a b t low : ℕ) {m x r q : ℕ} → 0 < t → m ≡ a - b → x ≡ m - t * t → r ≡ cond (leb (t * t) m) t low → q ≡ cond (leb (4 * (t * t) * b) (x * x)) r low → q ≡ cond (reaches a b (t * t)) t low
+pub further-is : (a b t low : ℕ) {m x r q : ℕ} → 0 < t → m ≡ a - b → x ≡ m - t * t → r ≡ cond (leb (t * t) m) t low →
+    q ≡ cond (leb (4 * (t * t) * b) (x * x)) r low → q ≡ cond (reaches a b (t * t)) t low
 further-is a b t low h em ex er eq =
-    eq ∙ rw (er, ex, em) (both-tests (leb (t * t) (a - b)) (leb (4 * (t * t) * b) ((a - b - t * t) * (a - b - t * t))) t low ∙ rw (reached a b (t * t) (mul-le-mul h h)))
+    let s = t * t in
+    let tests = both-tests (leb s (a - b)) (leb (4 * s * b) ((a - b - s) * (a - b - s))) t low in
+    eq ∙ rw (er, ex, em) (tests ∙ rw (reached a b s (mul-le-mul h h)))
 
 pub record Halved (a b low width : ℕ) : Type 0 where
   pub some : 1 ≤ width
@@ -49,7 +52,8 @@ fails-up : (a b s t : ℕ) → s ≤ t → reaches a b (s * s) ≡ false → rea
 fails-up a b s t h f =
     ⊎-elim (λ e. absurd (never (reaches-less a b (s * s) (t * t) (mul-le-mul h h) e) f)) (λ e. e) (both (reaches a b (t * t)))
 
-pub halved-turn : {a b low width low′ : ℕ} → Halved a b low width → 1 < width → low′ ≡ cond (reaches a b ((low + width / 2) * (low + width / 2))) (low + width / 2) low → Halved a b low′ (width - width / 2)
+pub halved-turn : {a b low width low′ : ℕ} → Halved a b low width → 1 < width →
+    low′ ≡ cond (reaches a b ((low + width / 2) * (low + width / 2))) (low + width / 2) low → Halved a b low′ (width - width / 2)
 halved-turn {a} {b} {low} {width} {low′} h l e =
     ⊎-elim
     (λ t. subst (λ (k : ℕ). Halved a b k (width - width / 2)) (sym (e ∙ ap (λ (p : Bool). cond p (low + width / 2) low) t)) (up t))

@@ -39,7 +39,8 @@ lowest-met l (suc k) =
 -- ---- of the ids that pass
 
 -- v comes to pass, or not, and the others are as they were
-pub least-add : {key : ℕ → ℕ} {n m v : ℕ} {p q : ℕ → Bool} (b : Bool) → Least key n p m → v < n → p v ≡ false → q v ≡ b → ((w : ℕ) → w < n → w ≢ v → q w ≡ p w) → Least key n q (cond b (min (key v) m) m)
+pub least-add : {key : ℕ → ℕ} {n m v : ℕ} {p q : ℕ → Bool} (b : Bool) → Least key n p m → v < n → p v ≡ false → q v ≡ b →
+    ((w : ℕ) → w < n → w ≢ v → q w ≡ p w) → Least key n q (cond b (min (key v) m) m)
 least-add {key} {n} {m} {v} {p} {q} b least l f e same = go b e
   where
     old : (k : ℕ) → k ≡ m → (k ≡ top) ⊎ ((w : ℕ) × (w < n) × (q w ≡ true) × (k ≡ key w))

@@ -50,7 +50,8 @@ pub record Chosen (δ : ℕ → ℕ → ℕ) (n u : ℕ) (left : List ℕ) (key 
   pub nearer : (w : ℕ) → w < n → δ u w < δ u v → done left w ≡ true
 
 -- the id whose key is the first
-chosen-at : {δ : ℕ → ℕ → ℕ} {n u key : ℕ} {left : List ℕ} (v : ℕ) → n ≤ 128 → Waiting δ n u left → key ≡ lowest left 128 → key < top → v < n → v ≢ u → key ≡ δ u v * 128 + v → getD left v 0 ≡ key → Chosen δ n u left key v
+chosen-at : {δ : ℕ → ℕ → ℕ} {n u key : ℕ} {left : List ℕ} (v : ℕ) → n ≤ 128 → Waiting δ n u left → key ≡ lowest left 128 → key < top → v < n → v ≢ u →
+    key ≡ δ u v * 128 + v → getD left v 0 ≡ key → Chosen δ n u left key v
 unfolding keyed
 chosen-at {δ} {n} {u} {key} {left} v few waiting e h l d k g = record {
   place = rw k (digits-mod (δ u v) (omega arith));
@@ -65,7 +66,8 @@ chosen-at {δ} {n} {u} {key} {left} v few waiting e h l d k g = record {
       (waiting w (omega arith));
 }
 
-pub chosen : {δ : ℕ → ℕ → ℕ} {n u key : ℕ} {left : List ℕ} → n ≤ 128 → Waiting δ n u left → key ≡ lowest left 128 → key < top → Chosen δ n u left key (key % 128)
+pub chosen : {δ : ℕ → ℕ → ℕ} {n u key : ℕ} {left : List ℕ} → n ≤ 128 → Waiting δ n u left → key ≡ lowest left 128 → key < top →
+    Chosen δ n u left key (key % 128)
 unfolding keyed
 chosen {δ} {n} {u} {key} {left} few waiting e h =
     ⊎-elim
@@ -89,7 +91,8 @@ cond-cond : (a b : Bool) (y z : ℕ) → cond a (cond b y z) z ≡ cond (a && b)
 cond-cond true b y z = refl
 cond-cond false b y z = refl
 
-module _ {δ : ℕ → ℕ → ℕ} {n u key v : ℕ} {left lead : List ℕ} (kept : Distances δ n) (lu : u < n) (sofar : Sofar δ n u left lead) (c : Chosen δ n u left key v) where
+module _ {δ : ℕ → ℕ → ℕ} {n u key v : ℕ} {left lead : List ℕ} (kept : Distances δ n) (lu : u < n) (sofar : Sofar δ n u left lead)
+    (c : Chosen δ n u left key v) where
   -- every point that leads towards v is decided
   least : Least (λ w. δ w v) n (leads δ n u v) (getD lead v 0)
   least = record {
@@ -121,7 +124,9 @@ module _ {δ : ℕ → ℕ → ℕ} {n u key v : ℕ} {left lead : List ℕ} (ke
   unfolding leads
   leads-v x = rw (ne-eqb u v (c .other), direct-by kept lu (c .below) (c .other) least)
 
-  settled : (lead′ : List ℕ) → length lead′ ≡ 128 → ((x : ℕ) → x < n → getD lead′ x 0 ≡ cond (leb (δ u v) (getD lead v 0)) (led (δ u v) (δ u x) (δ v x) (getD lead x 0)) (getD lead x 0)) → Sofar δ n u (set left v top) lead′
+  settled : (lead′ : List ℕ) → length lead′ ≡ 128 →
+      ((x : ℕ) → x < n → getD lead′ x 0 ≡ cond (leb (δ u v) (getD lead v 0)) (led (δ u v) (δ u x) (δ v x) (getD lead x 0)) (getD lead x 0)) →
+      Sofar δ n u (set left v top) lead′
   unfolding led
   settled lead′ long is = record {
     long-left = simp length-set (sofar .long-left);
@@ -139,13 +144,17 @@ module _ {δ : ℕ → ℕ → ℕ} {n u key v : ℕ} {left lead : List ℕ} (ke
         (λ w lw d. ap (λ (t : Bool). leads δ n u x w && t) (done-kept left v w d)) in
         subst
         (Least (λ w. δ w x) n (λ w. leads δ n u x w && done (set left v top) w))
-        (sym (is x l ∙ cond-cond (leb (δ u v) (getD lead v 0)) (ltb (δ u v) (δ u x)) _ _ ∙ ap (λ (t : Bool). cond t (min (δ v x) (getD lead x 0)) (getD lead x 0)) (sym (leads-v x))))
+        (sym
+        (is x l
+        ∙ cond-cond (leb (δ u v) (getD lead v 0)) (ltb (δ u v) (δ u x)) _ _
+        ∙ ap (λ (t : Bool). cond t (min (δ v x) (getD lead x 0)) (getD lead x 0)) (sym (leads-v x))))
         more;
   }
 
 -- ---- the same, by the first key
 
-module _ {δ : ℕ → ℕ → ℕ} {n u key : ℕ} {left lead : List ℕ} (kept : Distances δ n) (lu : u < n) (sofar : Sofar δ n u left lead) (e : key ≡ lowest left 128) (h : key < top) where
+module _ {δ : ℕ → ℕ → ℕ} {n u key : ℕ} {left lead : List ℕ} (kept : Distances δ n) (lu : u < n) (sofar : Sofar δ n u left lead) (e : key ≡ lowest left 128)
+    (h : key < top) where
   first : Chosen δ n u left key (key % 128)
   first = chosen (kept .few) (sofar .waiting) e h
 
@@ -163,7 +172,8 @@ module _ {δ : ℕ → ℕ → ℕ} {n u key : ℕ} {left lead : List ℕ} (kept
   first-cell p = p ∙ ap (λ (k : ℕ). cellBy k (getD lead (key % 128) 0)) (first .far) ∙ sym (settled-cell kept lu sofar first)
 
   -- where its edge is direct it leads from now on, and otherwise it does not
-  pub first-leads : {lead′ : List ℕ} → leb (key / 128) (getD lead (key % 128) 0) ≡ true → Spread δ u (key % 128) lead lead′ → Sofar δ n u (set left (key % 128) top) lead′
+  pub first-leads : {lead′ : List ℕ} → leb (key / 128) (getD lead (key % 128) 0) ≡ true → Spread δ u (key % 128) lead lead′ →
+      Sofar δ n u (set left (key % 128) top) lead′
   first-leads {lead′} t spread =
       settled kept lu sofar first lead′ (spread .long) (λ x l. spread .each x (omega (arith, kept .few)) ∙ rw (rw (first .far) at t))
 

@@ -26,14 +26,19 @@ key-of D v y = keyed D v
 pub replicated : {l : List ℕ} → l ≡ replicate 128 top → length l ≡ 128
 replicated e = ap length e ∙ length-replicate 128 top
 
-pub queued : {δ : ℕ → ℕ → ℕ} {n u k : ℕ} {old new : List ℕ} → n ≤ 128 → u < n → old ≡ replicate 128 top → k ≡ n → Mapped (key-of (δ u)) k old new → Queued δ n u (set new u top)
+pub queued : {δ : ℕ → ℕ → ℕ} {n u k : ℕ} {old new : List ℕ} → n ≤ 128 → u < n → old ≡ replicate 128 top → k ≡ n → Mapped (key-of (δ u)) k old new →
+    Queued δ n u (set new u top)
 queued {δ} {n} {u} {k} {old} {new} few lu e s m =
     let long : length new ≡ 128 = m .long ∙ replicated e in
     record {
       long = simp length-set long;
       self = getD-set-same new u top 0 (omega arith);
       ids = λ v l d. getD-set-other new u v top 0 d ∙ m .passed v (omega arith);
-      others = λ v l h. getD-set-other new u v top 0 (λ t. lt-irrefl u (omega (arith, t))) ∙ m .others v (omega arith) ∙ ap (λ (o : List ℕ). getD o v 0) e ∙ getD-replicate 128 v top 0 h;
+      others = λ v l h.
+          getD-set-other new u v top 0 (λ t. lt-irrefl u (omega (arith, t)))
+          ∙ m .others v (omega arith)
+          ∙ ap (λ (o : List ℕ). getD o v 0) e
+          ∙ getD-replicate 128 v top 0 h;
     }
 
 -- a key is below the largest number
@@ -63,7 +68,8 @@ sofar-none {δ} {n} {u} {left} {lead} kept lu q e = record {
         lt-irrefl top (omega (arith, done-is left w f, q .ids w lw (λ s. other (sym s)), keyed-small u w kept lu lw))
 
 -- only u has its cell at first
-pub written-none : {δ : ℕ → ℕ → ℕ} {n u at : ℕ} {left : List ℕ} (table : List ℕ) → Distances δ n → u < n → at + n ≤ length table → Queued δ n u left → Written δ n u at left (set table (at + u) 65535)
+pub written-none : {δ : ℕ → ℕ → ℕ} {n u at : ℕ} {left : List ℕ} (table : List ℕ) → Distances δ n → u < n → at + n ≤ length table → Queued δ n u left →
+    Written δ n u at left (set table (at + u) 65535)
 written-none {δ} {n} {u} {at} {left} table kept lu room q = record {
   room = simp length-set room;
   cells = λ v l f.

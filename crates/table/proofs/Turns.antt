@@ -30,10 +30,12 @@ pub record Going (δ : ℕ → ℕ → ℕ) (n u at : ℕ) (table₀ left lead t
   pub others : (i : ℕ) → (i < at) ⊎ (at + n ≤ i) → getD table i 0 ≡ getD table₀ i 0
   pub next : key ≡ lowest left 128
 
-pub going-start : {δ : ℕ → ℕ → ℕ} {n u at key : ℕ} {left lead table : List ℕ} → Sofar δ n u left lead → Written δ n u at left table → key ≡ lowest left 128 → Going δ n u at table left lead table key
+pub going-start : {δ : ℕ → ℕ → ℕ} {n u at key : ℕ} {left lead table : List ℕ} → Sofar δ n u left lead → Written δ n u at left table →
+    key ≡ lowest left 128 → Going δ n u at table left lead table key
 going-start s w e = record { sofar = s; written = w; long = refl; others = λ i h. refl; next = e }
 
-module _ {δ : ℕ → ℕ → ℕ} {n u at key : ℕ} {table₀ left lead table : List ℕ} (kept : Distances δ n) (lu : u < n) (going : Going δ n u at table₀ left lead table key) where
+module _ {δ : ℕ → ℕ → ℕ} {n u at key : ℕ} {table₀ left lead table : List ℕ} (kept : Distances δ n) (lu : u < n)
+    (going : Going δ n u at table₀ left lead table key) where
   module _ (h : key < top) where
     below : key % 128 < n
     below = first-below kept lu (going .sofar) (going .next) h
@@ -45,14 +47,18 @@ module _ {δ : ℕ → ℕ → ℕ} {n u at key : ℕ} {table₀ left lead table
     outside : (i : ℕ) → (i < at) ⊎ (at + n ≤ i) → i ≢ at + key % 128
     outside i o s = ⊎-elim (λ l. lt-irrefl at (omega arith)) (λ l. lt-irrefl at (omega (arith, below))) o
 
-    pub going-turn : {key′ : ℕ} {left′ lead′ table′ : List ℕ} → left′ ≡ set left (key % 128) top → Sofar δ n u left′ lead′ → table′ ≡ set table (at + key % 128) (cell δ n u (key % 128)) → key′ ≡ lowest left′ 128 → Going δ n u at table₀ left′ lead′ table′ key′
+    pub going-turn : {key′ : ℕ} {left′ lead′ table′ : List ℕ} → left′ ≡ set left (key % 128) top → Sofar δ n u left′ lead′ →
+        table′ ≡ set table (at + key % 128) (cell δ n u (key % 128)) → key′ ≡ lowest left′ 128 → Going δ n u at table₀ left′ lead′ table′ key′
     going-turn e s f k = record {
       sofar = s;
       written = record {
         room = rw (f, length-set) (going .written .room);
         cells = λ w lw t.
             ⊎-elim
-            (λ g. rw (f, eqb-true w (key % 128) g) (getD-set-same table (at + key % 128) (cell δ n u (key % 128)) 0 (omega (arith, below, going .written .room))))
+            (λ g.
+            rw
+            (f, eqb-true w (key % 128) g)
+            (getD-set-same table (at + key % 128) (cell δ n u (key % 128)) 0 (omega (arith, below, going .written .room))))
             (λ g.
             rw
             f

@@ -1,13 +1,12 @@
 -- The answers lose nothing: two that say the same are the same, so that each contract fixes its result. Assumes nothing.
 use mathlib.Core.Path.{_≡_, refl, ap}
-use Rattle.walk.specs.declared.Walk.{Walk}
 use Rattle.walk.specs.declared.Answer.{Answer}
 use Rattle.walk.specs.declared.Answer.the-variants.{Refused, Moved, AtEnd}
 use Rattle.walk.specs.declared.Stepped.{Stepped}
 use Rattle.walk.specs.declared.End.{End}
 use Rattle.walk.specs.declared.Walked.{Walked}
 use Rattle.walk.specs.declared.Walked.the-variants as walked
-use Rattle.walk.specs.Answers.{recordOf, recordIn, told, endIn, toldEnd}
+use Rattle.walk.specs.Answers.{recordIn, told, endIn, toldEnd}
 
 pub told-once : (a b : Answer) → told a ≡ told b → a ≡ b
 told-once (Refused r) (Refused s) e = cc
@@ -19,9 +18,6 @@ told-once Moved AtEnd e = cc
 told-once AtEnd (Refused s) e = cc
 told-once AtEnd Moved e = cc
 told-once AtEnd AtEnd e = refl
-
-pub record-once : (v w : Walk) → recordOf v ≡ recordOf w → v ≡ w
-record-once v w e = λ i. record { current = e i .current; moves = e i .moves }
 
 pub stepped-once : (r s : Stepped) → told (r .answer) ≡ told (s .answer) → recordIn r ≡ recordIn s → r ≡ s
 stepped-once r s a e = λ i. record { answer = told-once (r .answer) (s .answer) a i; current = e i .current; moves = e i .moves }

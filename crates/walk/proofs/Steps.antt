@@ -23,7 +23,8 @@ use Rattle.walk.proofs.Least.{key-stays, key-moves}
 
 -- ---- where a step from u moves to, by the key that is found
 
-module _ (n d : ℕ) (vectors : List ℤ) (table : List ℕ) (query : List ℤ) (threshold u distance key : ℕ) (few : n ≤ 128) (far : distance ≡ away d vectors query u) (is : key ≡ least (keyed (away d vectors query)) (edgeIn table n threshold u) (distance * 128) n) where
+module _ (n d : ℕ) (vectors : List ℤ) (table : List ℕ) (query : List ℤ) (threshold u distance key : ℕ) (few : n ≤ 128)
+    (far : distance ≡ away d vectors query u) (is : key ≡ least (keyed (away d vectors query)) (edgeIn table n threshold u) (distance * 128) n) where
   found : key ≡ least (keyed (away d vectors query)) (edgeIn table n threshold u) (away d vectors query u * 128) n
   found = is ∙ ap (λ (x : ℕ). least (keyed (away d vectors query)) (edgeIn table n threshold u) (x * 128) n) far
 
@@ -31,7 +32,8 @@ module _ (n d : ℕ) (vectors : List ℤ) (table : List ℕ) (query : List ℤ) 
   unfolding goesTo
   goes-nowhere h = key-stays n (away d vectors query) (edgeIn table n threshold) u few (omega (arith, found, far))
 
-  pub goes-there : (id : ℕ) → id ≡ key % 128 → key / 128 < distance → (goesTo n d vectors table query threshold u ≡ some id) × (away d vectors query id ≡ key / 128)
+  pub goes-there : (id : ℕ) → id ≡ key % 128 → key / 128 < distance →
+      (goesTo n d vectors table query threshold u ≡ some id) × (away d vectors query id ≡ key / 128)
   unfolding goesTo
   goes-there id e h = rw (e, found) (key-moves n (away d vectors query) (edgeIn table n threshold) u few (omega (arith, found, far)))
 

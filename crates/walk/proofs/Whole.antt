@@ -14,7 +14,7 @@ use lib.ListN.{length}
 use Rattle.rules.specs.Outcome.{refused, gives, outcome}
 use Rattle.rules.specs.Points.{dist, coordinates, apart, away}
 use Rattle.rules.specs.Labels.{edgeIn}
-use Rattle.rules.specs.Edges.{Closing, Symmetric}
+use Rattle.rules.specs.Edges.{Closing}
 use Rattle.rules.specs.Refusals.{walkRefusal}
 use Rattle.rules.specs.Walk.{Walk as Record, walk, walkFrom}
 use Rattle.rules.specs.Entries.{End as Ending, goesTo, stepRefused, recordAfter, ending, endOf, walkAnswer}
@@ -31,7 +31,8 @@ use Rattle.walk.specs.Whole.{stepsOn, BySteps, Arrived}
 use Rattle.walk.proofs.Taken.{taken, another, no-eighteen}
 use Rattle.walk.proofs.Steps.{number-end, number-move, step-ends, step-moves}
 
-module _ (n d : ℕ) (vectors : List ℤ) (table : List ℕ) (query : List ℤ) (threshold start : ℕ) (given : walkRefusal n d (length vectors) (length table) (length query) start threshold ≡ 0) where
+module _ (n d : ℕ) (vectors : List ℤ) (table : List ℕ) (query : List ℤ) (threshold start : ℕ)
+    (given : walkRefusal n d (length vectors) (length table) (length query) start threshold ≡ 0) where
   abbrev D : ℕ → ℕ
   D = away d vectors query
 
@@ -121,7 +122,8 @@ module _ (n d : ℕ) (vectors : List ℤ) (table : List ℕ) (query : List ℤ) 
   -- ---- where a walk that is not refused ends
 
   -- its answer is an end
-  ends : (r : Walked) → toldEnd r ≡ walkAnswer n d vectors table query threshold start → (e : End) × (r ≡ Ended e) × (endIn e ≡ endOf n d vectors table query threshold start)
+  ends : (r : Walked) → toldEnd r ≡ walkAnswer n d vectors table query threshold start →
+      (e : End) × (r ≡ Ended e) × (endIn e ≡ endOf n d vectors table query threshold start)
   unfolding walkAnswer
   ends (Refused k) q = let is = q ∙ outcome-gives given (endOf n d vectors table query threshold start) in absurd (not-given k is)
     where
@@ -145,7 +147,8 @@ module _ (n d : ℕ) (vectors : List ℤ) (table : List ℕ) (query : List ℤ) 
         short = rw count (s .short);
       }
 
-  pub arrives : (r : Walked) → toldEnd r ≡ walkAnswer n d vectors table query threshold start → (e : End) × (r ≡ Ended e) × Arrived n d vectors table query threshold e
+  pub arrives : (r : Walked) → toldEnd r ≡ walkAnswer n d vectors table query threshold start →
+      (e : End) × (r ≡ Ended e) × Arrived n d vectors table query threshold e
   arrives r q = let f = ends r q in (f .0, f .1, real-end (f .0) (f .2))
 
   -- D from a query that is the point v
@@ -157,7 +160,8 @@ module _ (n d : ℕ) (vectors : List ℤ) (table : List ℕ) (query : List ℤ) 
   unfolding apart
   apart-self v = dist-self (coordinates d vectors v)
 
-  zero-end : Closing (apart d vectors) n edge → (v : ℕ) → v < n → query ≡ coordinates d vectors v → (e : End) → endIn e ≡ endOf n d vectors table query threshold start → e .distance ≡ 0
+  zero-end : Closing (apart d vectors) n edge → (v : ℕ) → v < n → query ≡ coordinates d vectors v → (e : End) →
+      endIn e ≡ endOf n d vectors table query threshold start → e .distance ≡ 0
   unfolding endOf ending
   zero-end closing v l is e q =
       let zero : D v ≡ 0 = from-point v is v ∙ apart-self v in
@@ -165,14 +169,17 @@ module _ (n d : ℕ) (vectors : List ℤ) (table : List ℕ) (query : List ℤ) 
       ap (λ (x : Ending). x .distance) q ∙ found .nearest ∙ zero
 
   -- document 01: where the query is a point, and the table's edges close, the walk ends at D = 0
-  pub arrives-at-zero : Closing (apart d vectors) n (edgeIn table n threshold) → (v : ℕ) → v < n → query ≡ coordinates d vectors v → (r : Walked) → toldEnd r ≡ walkAnswer n d vectors table query threshold start → (e : End) × (r ≡ Ended e) × (e .distance ≡ 0)
+  pub arrives-at-zero : Closing (apart d vectors) n (edgeIn table n threshold) → (v : ℕ) → v < n → query ≡ coordinates d vectors v → (r : Walked) →
+      toldEnd r ≡ walkAnswer n d vectors table query threshold start → (e : End) × (r ≡ Ended e) × (e .distance ≡ 0)
   arrives-at-zero closing v l is r q = let f = ends r q in (f .0, f .1, zero-end closing v l is (f .0) (f .2))
 
 -- the whole walk never answers 18
-pub never-eighteen : (n d : ℕ) (vectors : List ℤ) (table : List ℕ) (query : List ℤ) (threshold start : ℕ) → toldEnd (Refused 18) ≡ walkAnswer n d vectors table query threshold start → ⊥
+pub never-eighteen : (n d : ℕ) (vectors : List ℤ) (table : List ℕ) (query : List ℤ) (threshold start : ℕ) →
+    toldEnd (Refused 18) ≡ walkAnswer n d vectors table query threshold start → ⊥
 unfolding walkAnswer outcome
 never-eighteen n d vectors table query threshold start q =
-    go (walkRefusal n d (length vectors) (length table) (length query) start threshold) (no-eighteen n d (length vectors) (length table) (length query) start threshold) q
+    let small = no-eighteen n d (length vectors) (length table) (length query) start threshold in
+    go (walkRefusal n d (length vectors) (length table) (length query) start threshold) small q
   where
     go : (k : ℕ) → k ≤ 9 → refused 18 ≡ outcome k (endOf n d vectors table query threshold start) → ⊥
     go zero h q = let z : _≡_ {A = ℕ} 0 1 = cc in omega arith

@@ -48,7 +48,8 @@ fn better(
 ) -> u32
     requires current { ⌜ Taken n d (now vectors) (now table) (now query) current ⌝ }
     requires id { ⌜ id < n ⌝ }
-    ensures { λ r. ⌜ r ≡ cond (edgeIn (now (table .entry)) n threshold current id) (min (keyed (away d (now (vectors .entry)) (now (query .entry))) id) best) best ⌝ }
+    ensures { λ r. ⌜ r ≡ cond (edgeIn (now (table .entry)) n threshold current id)
+        (min (keyed (away d (now (vectors .entry)) (now (query .entry))) id) best) best ⌝ }
 {
     if current == id {
         return best;
@@ -73,7 +74,8 @@ pub(crate) fn next_key(
 ) -> u32
     requires current { ⌜ Taken n d (now vectors) (now table) (now query) current ⌝ }
     requires bounded { ⌜ distance ≤ 4161600 ⌝ }
-    ensures { λ r. ⌜ r ≡ least (keyed (away d (now (vectors .entry)) (now (query .entry)))) (edgeIn (now (table .entry)) n threshold current) (distance * 128) n ⌝ }
+    ensures { λ r. ⌜ r ≡ least (keyed (away d (now (vectors .entry)) (now (query .entry))))
+        (edgeIn (now (table .entry)) n threshold current) (distance * 128) n ⌝ }
 {
     let here = current as usize;
     let mut best = distance * 128;

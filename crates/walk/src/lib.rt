@@ -84,7 +84,8 @@ fn unrefused_step(
     moves: u16,
 ) -> Stepped
     requires { ⌜ walkRefusal n d (length (now vectors)) (length (now table)) (length (now query)) current threshold ≡ 0 ⌝ }
-    ensures { λ r. ⌜ (told (r .answer) ≡ stepAnswer n d (now (vectors .entry)) (now (table .entry)) (now (query .entry)) threshold (at current moves)) × (recordIn r ≡ recordAfter n d (now (vectors .entry)) (now (table .entry)) (now (query .entry)) threshold (at current moves)) ⌝ }
+    ensures { λ r. ⌜ (told (r .answer) ≡ stepAnswer n d (now (vectors .entry)) (now (table .entry)) (now (query .entry)) threshold (at current moves))
+        × (recordIn r ≡ recordAfter n d (now (vectors .entry)) (now (table .entry)) (now (query .entry)) threshold (at current moves)) ⌝ }
 {
     let distance = keys::from_query(n, d, vectors, query, current as usize);
     let key = keys::next_key(n, d, vectors, table, query, threshold, current, distance);
@@ -114,7 +115,8 @@ pub fn step_at(
     current: u16,
     moves: u16,
 ) -> Stepped
-    ensures { λ r. ⌜ (told (r .answer) ≡ stepAnswer n d (now (vectors .entry)) (now (table .entry)) (now (query .entry)) threshold (at current moves)) × (recordIn r ≡ recordAfter n d (now (vectors .entry)) (now (table .entry)) (now (query .entry)) threshold (at current moves)) ⌝ }
+    ensures { λ r. ⌜ (told (r .answer) ≡ stepAnswer n d (now (vectors .entry)) (now (table .entry)) (now (query .entry)) threshold (at current moves))
+        × (recordIn r ≡ recordAfter n d (now (vectors .entry)) (now (table .entry)) (now (query .entry)) threshold (at current moves)) ⌝ }
 {
     let refusal = walk_refusal(n, d, vectors, table, query, current, threshold);
     if refusal != 0 {
@@ -182,7 +184,8 @@ pub fn step(
     query: &[i8],
     threshold: u16,
 ) -> Answer
-    ensures { λ r. ⌜ (told r ≡ stepAnswer n d (now (vectors .entry)) (now (table .entry)) (now (query .entry)) threshold (recordOf (now (walk .entry)))) × (recordOf (now (walk .exit)) ≡ recordAfter n d (now (vectors .entry)) (now (table .entry)) (now (query .entry)) threshold (recordOf (now (walk .entry)))) ⌝ }
+    ensures { λ r. ⌜ (told r ≡ stepAnswer n d (now (vectors .entry)) (now (table .entry)) (now (query .entry)) threshold (recordOf (now (walk .entry))))
+        × (recordOf (now (walk .exit)) ≡ recordAfter n d (now (vectors .entry)) (now (table .entry)) (now (query .entry)) threshold (recordOf (now (walk .entry)))) ⌝ }
 {
     let current = walk.current;
     let moves = walk.moves;

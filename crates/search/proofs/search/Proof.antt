@@ -3,8 +3,8 @@ use mathlib.Core.Path.{_≡_, refl, sym, _∙_}
 use native.Mathlib.Omega.{arith}
 use lib.ListN.{length}
 use Rattle.rules.specs.Refusals.{searchRefusal}
-use Rattle.search.proofs.Asked.{SearchOk, search-ok, given, zeros-at, nothing-seen, started}
-use Rattle.search.proofs.Finish.{explored-room, refusing, giving}
+use Rattle.search.proofs.Starting.{zeros-at, nothing-seen, started}
+use Rattle.search.proofs.Finish.{SearchOk, search-ok, explored-room, refusing, giving}
 use borrow.Author.Needs.{needs}
 use Rattle.search.proofs.search.Statement.{statement}
 use Rattle.search.proofs.search.Tie as tie
@@ -32,16 +32,18 @@ taken c = sym (c .before .search-refusal .ensures) ∙ c .if1 .left
 
 unrefused : (c : tie.Else1) →
     let a = c .before .before .before .before .before .before .args in
-    SearchOk (a .n) (a .d) (length (a .vectors .now)) (length (a .table .now)) (length (a .query .now)) (a .start)
+    SearchOk (a .n) (a .d) (length (a .vectors .now)) (length (a .table .now)) (length (a .query .now)) (a .start) (a .threshold) (a .width)
     (a .k) (length (a .ids .now)) (length (a .distances .now)) (length (a .trail .now))
 unrefused c = search-ok _ _ _ _ _ _ _ _ _ _ _ _ (taken c)
 
 see-requires : tie.Need-see-requires
 see-requires c κs =
     let asked = c .before .before in
-    let starts = unrefused asked .starts in
-    let start = asked .before .before .before .before .before .before .args .start in
-    (given _ _ starts, (nothing-seen _ _ _ _ refl refl (zeros-at 128), (starts .start-in, zeros-at 128 start)))
+    let ok = unrefused asked in
+    let start = asked .before .before .before .before .before .before .args .start in (
+      record { set-given = ok .set-given; query-is = ok .query-is },
+      (nothing-seen _ _ _ _ refl refl (zeros-at 128), (ok .start-in, zeros-at 128 start)),
+    )
 
 slice-aggregate-explore : tie.Need-slice-aggregate-explore
 slice-aggregate-explore c = search needs
@@ -53,9 +55,10 @@ explore-requires : tie.Need-explore-requires
 explore-requires c κs =
     let see = c .before .before .before .before .before in
     let ok = unrefused (see .before .before .before) in
-    let starts = ok .starts in
-    let first = started _ _ (starts .start-in) (starts .few-points) _ (see .see .ensures .0) in
-    (given _ _ starts, (see .see .ensures .1, (first .fresh, (starts .table-is, ok .trail-room))))
+    let first = started _ _ (ok .start-in) (ok .few-points) _ (see .see .ensures .0) in (
+      record { set-given = ok .set-given; query-is = ok .query-is },
+      (see .see .ensures .1, (first .fresh, (ok .table-is, ok .trail-room))),
+    )
 
 smaller-requires : tie.Need-smaller-requires
 smaller-requires c κs = search needs
@@ -72,7 +75,7 @@ answer-requires c κs =
     let f = c .before .before .before .smaller .ensures in
     let explore = c .before .before .before .before .before .before .before .before in
     let ok = unrefused (asked-before explore) in
-    (omega (arith, explored-room (ok .starts .few-points) (explore .explore .ensures)), omega arith, omega arith)
+    (omega (arith, explored-room (ok .few-points) (explore .explore .ensures)), omega arith, omega arith)
 
 same-length : tie.Need-same-length
 same-length c = search needs
@@ -89,9 +92,9 @@ returns-2 c =
     let smaller = answer .before .before .before .before in
     let explore = smaller .before .before .before .before .before in
     let asked = asked-before explore in
-    let starts = unrefused asked .starts in
+    let ok = unrefused asked in
     let see = explore .before .before .before .before .before .before .see in
-    let first = started _ _ (starts .start-in) (starts .few-points) _ (see .ensures .0) in
+    let first = started _ _ (ok .start-in) (ok .few-points) _ (see .ensures .0) in
     let x =
     giving _ _ _ _ _ _ _ _ _ _ _ _ _ _ _ _ _ _ _ _ (taken asked) (first .only) (explore .explore .ensures)
     (smaller .smaller .ensures) (answer .answer .ensures .0) (answer .answer .ensures .1) in

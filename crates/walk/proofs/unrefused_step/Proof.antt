@@ -2,7 +2,7 @@
 use Prim.Native.Nat.{ℕ, _/_, _%_, _≤_, _<_}
 use native.Mathlib.Omega.{arith}
 use mathlib.Core.Path.{_≡_, refl, ap, _∙_}
-use mathlib.Core.Option.{none, some}
+use mathlib.Core.Option.{Option, none, some}
 use borrow.Author.Needs.{needs}
 use denote.Ref.{now}
 use Rattle.rules.specs.Entries.{goesTo}
@@ -24,13 +24,18 @@ next-key-requires c κs = (known (c .before .before), c .from-query .ensures .1)
 
 -- what is found, and whether it is nearer
 module _ (c : tie.After-next-key) where
+  abbrev next : Option ℕ
+  next =
+      let a = c .before .before .before .args in
+      goesTo (a .n) (a .d) (now (a .vectors)) (now (a .table)) (now (a .query)) (a .threshold) (a .current)
+
   few : c .before .before .before .args .n ≤ 128
   few = known (c .before .before .before) .set .few
 
-  nowhere : c .before .from-query .result ≤ c .next-key .result / 128 → let a = c .before .before .before .args in goesTo (a .n) (a .d) (now (a .vectors)) (now (a .table)) (now (a .query)) (a .threshold) (a .current) ≡ none
+  nowhere : c .before .from-query .result ≤ c .next-key .result / 128 → next ≡ none
   nowhere h = goes-nowhere _ _ _ _ _ _ _ _ _ few (c .before .from-query .ensures .0) (c .next-key .ensures) h
 
-  goes : (id : ℕ) → id ≡ c .next-key .result % 128 → c .next-key .result / 128 < c .before .from-query .result → let a = c .before .before .before .args in goesTo (a .n) (a .d) (now (a .vectors)) (now (a .table)) (now (a .query)) (a .threshold) (a .current) ≡ some id
+  goes : (id : ℕ) → id ≡ c .next-key .result % 128 → c .next-key .result / 128 < c .before .from-query .result → next ≡ some id
   goes id e h = goes-there _ _ _ _ _ _ _ _ _ few (c .before .from-query .ensures .0) (c .next-key .ensures) id e h .0
 
 stays-requires : tie.Need-stays-requires

@@ -12,7 +12,9 @@ use Rattle.walk.proofs.Taken.{taken}
 use Rattle.walk.proofs.whole_walk.Statement.{statement}
 use Rattle.walk.proofs.whole_walk.Tie as tie
 
-none-given : (c : tie.Else1) → let a = c .before .before .before .args in walkRefusal (a .n) (a .d) (length (now (a .vectors))) (length (now (a .table))) (length (now (a .query))) (a .start) (a .threshold) ≡ 0
+none-given : (c : tie.Else1) →
+    let a = c .before .before .before .args in
+    walkRefusal (a .n) (a .d) (length (now (a .vectors))) (length (now (a .table))) (length (now (a .query))) (a .start) (a .threshold) ≡ 0
 none-given c = sym (c .before .walk-refusal .ensures) ∙ c .if1 .left
 
 known : (c : tie.Else1) → let a = c .before .before .before .args in Taken (a .n) (a .d) (now (a .vectors)) (now (a .table)) (now (a .query)) (a .start)

@@ -39,7 +39,8 @@ loop-again c =
     let id-in = c .before .before .before .before .before .before .before .loop-test .taken in (
       omega (arith, l .loop .inv .0),
       omega (arith, id-in),
-      part-step (l .loop .inv .2) (l .loop .inv .0) (omega (arith, id-in, s .pre .1 .1 .1, given-small (s .pre .0), s .pre .1 .0 .flags-size)) _ (look .look .ensures .0),
+      part-step (l .loop .inv .2) (l .loop .inv .0)
+          (omega (arith, id-in, s .pre .1 .1 .1, given-small (s .pre .0), s .pre .1 .0 .flags-size)) _ (look .look .ensures .0),
       look .look .ensures .1,
     )
 

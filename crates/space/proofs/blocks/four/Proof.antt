@@ -35,7 +35,11 @@ add-result-3 : tie.Need-add-result-3
 add-result-3 c = search needs
 
 returns : tie.Need-returns
-returns c = pairs-add (pairs-add (pairs-add (c .before .before .before .pair .ensures) (c .before .before .pair2 .ensures)) (c .before .pair3 .ensures)) (c .pair4 .ensures)
+returns c =
+    let third = c .before in
+    let second = third .before in
+    let first = second .before in
+    pairs-add (pairs-add (pairs-add (first .pair .ensures) (second .pair2 .ensures)) (third .pair3 .ensures)) (c .pair4 .ensures)
 
 pub four-spec : {M : Type 1} → statement M
 four-spec =

@@ -35,7 +35,11 @@ add-result-3 : tie.Need-add-result-3
 add-result-3 c = search needs
 
 returns : tie.Need-returns
-returns c = pairs-add (pairs-add (pairs-add (c .before .before .before .four .ensures) (c .before .before .four2 .ensures)) (c .before .four3 .ensures)) (c .four4 .ensures)
+returns c =
+    let third = c .before in
+    let second = third .before in
+    let first = second .before in
+    pairs-add (pairs-add (pairs-add (first .four .ensures) (second .four2 .ensures)) (third .four3 .ensures)) (c .four4 .ensures)
 
 pub sixteen-spec : {M : Type 1} → statement M
 sixteen-spec =

@@ -20,7 +20,10 @@ cast-result : tie.Need-cast-result
 cast-result c = square-casts (c .fits .x) (c .fits .y) (widened (c .fits .x)) (widened (c .fits .y))
 
 returns : tie.Need-returns
-returns c = (square-cast (c .fits .x) (c .fits .y) (widened (c .fits .x)) (widened (c .fits .y)), gap-le (c .args .x) (c .args .y) (c .fits .x .sfits) (c .fits .y .sfits))
+returns c =
+    let x = c .fits .x in
+    let y = c .fits .y in
+    (square-cast x y (widened x) (widened y), gap-le (c .args .x) (c .args .y) (x .sfits) (y .sfits))
 
 pub squared-spec : {M : Type 1} → statement M
 squared-spec = tie.close (tie.spec cast-d cast-d-2 sub-d mul-result cast-result returns)

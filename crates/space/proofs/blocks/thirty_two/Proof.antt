@@ -71,7 +71,15 @@ add-result-7 : tie.Need-add-result-7
 add-result-7 c = search needs
 
 returns : tie.Need-returns
-returns c = pairs-add (pairs-add (pairs-add (pairs-add (pairs-add (pairs-add (pairs-add (c .before .before .before .before .before .before .before .four .ensures) (c .before .before .before .before .before .before .four2 .ensures)) (c .before .before .before .before .before .four3 .ensures)) (c .before .before .before .before .four4 .ensures)) (c .before .before .before .four5 .ensures)) (c .before .before .four6 .ensures)) (c .before .four7 .ensures)) (c .four8 .ensures)
+returns c =
+    let c7 = c .before in
+    let c6 = c7 .before in
+    let c5 = c6 .before in
+    let c4 = c5 .before in
+    let c3 = c4 .before in
+    let c2 = c3 .before in
+    let half = pairs-add (pairs-add (pairs-add (c2 .before .four .ensures) (c2 .four2 .ensures)) (c3 .four3 .ensures)) (c4 .four4 .ensures) in
+    pairs-add (pairs-add (pairs-add (pairs-add half (c5 .four5 .ensures)) (c6 .four6 .ensures)) (c7 .four7 .ensures)) (c .four8 .ensures)
 
 pub thirty-two-spec : {M : Type 1} → statement M
 thirty-two-spec =

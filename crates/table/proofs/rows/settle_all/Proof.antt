@@ -29,16 +29,20 @@ first-key-requires-2 c κs = tt
 
 loop-less : tie.Need-loop-less Inv-loop μ-loop
 loop-less c =
-    let s = c .before .before .before .before .before .before .before .before .before .before .before .before .before in
-    let l = c .before .before .before .before .before .before .before .before .before in
-    going-less (s .pre .0 .1) (s .pre .0 .0) (l .loop .inv) (c .before .before .before .before .before .before .before .before .loop-test .taken) (c .before .before .before .before .settle .ensures .1 .0)
+    let settle = c .before .before .before .before in
+    let turn = settle .before .before .before .before in
+    let l = turn .before in
+    let pre = l .before .before .before .before .pre .0 in
+    going-less (pre .1) (pre .0) (l .loop .inv) (turn .loop-test .taken) (settle .settle .ensures .1 .0)
 
 loop-again : tie.Need-loop-again Inv-loop μ-loop
 loop-again c =
-    let s = c .before .before .before .before .before .before .before .before .before .before .before .before .before in
-    let l = c .before .before .before .before .before .before .before .before .before in
-    let e = c .before .before .before .before .settle .ensures in
-    going-turn (s .pre .0 .1) (s .pre .0 .0) (l .loop .inv) (c .before .before .before .before .before .before .before .before .loop-test .taken) (e .1 .0) (e .0) (e .1 .1) (c .first-key2 .ensures)
+    let settle = c .before .before .before .before in
+    let turn = settle .before .before .before .before in
+    let l = turn .before in
+    let pre = l .before .before .before .before .pre .0 in
+    let e = settle .settle .ensures in
+    going-turn (pre .1) (pre .0) (l .loop .inv) (turn .loop-test .taken) (e .1 .0) (e .0) (e .1 .1) (c .first-key2 .ensures)
 
 same-length : tie.Need-same-length Inv-loop μ-loop
 same-length c = c .before .loop .inv .long

@@ -8,7 +8,8 @@ use Rattle.walk.proofs.keys.better.Statement.{statement}
 use Rattle.walk.proofs.keys.better.Tie as tie
 
 -- the cell that is looked at
-inside : (c : tie.Else1) → c .before .before .args .current * c .before .before .args .n + c .before .before .args .id < c .before .before .args .n * c .before .before .args .n
+inside : (c : tie.Else1) →
+    c .before .before .args .current * c .before .before .args .n + c .before .before .args .id < c .before .before .args .n * c .before .before .args .n
 inside c =
     let s = c .before .before in
     cell-in (s .args .n) (s .args .current) (s .args .id) (s .pre .0 .within) (s .pre .1)

@@ -1,57 +1,21 @@
--- An ask that is not refused, and the flags and the line when its start is seen. Assumes nothing.
-use Prim.Native.Nat.{ℕ, zero, suc, _*_, _≤_, _<_}
+-- The flags and the line at first, and when the start is seen. Assumes nothing.
+use Prim.Native.Nat.{ℕ, zero, suc, _≤_, _<_}
 use native.Mathlib.Nat.{lt-irrefl}
 use native.Mathlib.Omega.{arith}
-use mathlib.Core.Path.{_≡_, refl, sym, ap, _∙_, fun-ext}
+use mathlib.Core.Path.{_≡_, refl, sym, ap, fun-ext}
 use mathlib.Core.Logic.{⊎-elim}
-use mathlib.Core.Bool.{Bool, true, false, not}
-use mathlib.Core.Option.{none, some}
+use mathlib.Core.Bool.{false}
+use mathlib.Core.Option.{none}
 use mathlib.Core.List.{List, map}
-use lib.Dec.{eqb, ltb, leb}
-use lib.IntN.{ℤ}
+use lib.Dec.{eqb}
 use lib.ListN.{length, getD, set, replicate}
 use lib.Seq.{getD-set-same, getD-set-other}
-use borrow.Author.Tests.{eqb-true, eqb-false, ltb-false}
+use borrow.Author.Tests.{eqb-true, eqb-false}
 use Rattle.rules.specs.Order.{first}
-use Rattle.rules.specs.Refusals.{outside, startRefusal, searchRefusal}
-use Rattle.laws.proofs.Tests.{both, never, or-off, or-off-r, count-none}
+use Rattle.laws.proofs.Tests.{both, never, count-none}
 use Rattle.laws.proofs.Order.{first-some, first-cases, firsts-none}
-use Rattle.laws.proofs.Refusals.{else-both, skipped}
-use Rattle.laws.proofs.RefusalOrder.{search-order, StartOk, start-ok}
 use Rattle.search.specs.Line.{sees}
-use Rattle.search.specs.Seen.{Given, Lined}
-
--- ---- an ask that is not refused
-
-pub record SearchOk (n d vectors table query start k ids distances trail : ℕ) : Type 0 where
-  pub starts : StartOk n d vectors table query start
-  pub ids-room : k ≤ ids
-  pub distances-room : k ≤ distances
-  pub trail-room : n ≤ trail
-
-pub search-ok : (n d vectors table query start threshold width k ids distances trail : ℕ) →
-    searchRefusal n d vectors table query start threshold width k ids distances trail ≡ 0 →
-    SearchOk n d vectors table query start k ids distances trail
-search-ok n d vectors table query start threshold width k ids distances trail e =
-    let order = search-order n d vectors table query start threshold width k ids distances trail in
-    let both = else-both (startRefusal n d vectors table query start) _ (sym order ∙ e) in
-    let seven = skipped (outside 1 128 width) 6 _ (both .1) in
-    let eight = skipped (outside 1 width k) 7 _ (seven .1) in
-    let nine = skipped (ltb 32767 threshold) 8 _ (eight .1) in
-    let ten = skipped _ 9 0 (nine .1) in
-    let rest = or-off-r (ltb ids k) _ (ten .0) in
-    record {
-      starts = start-ok n d vectors table query start (both .0);
-      ids-room = ltb-false ids k (or-off (ltb ids k) _ (ten .0));
-      distances-room = ltb-false distances k (or-off (ltb distances k) (ltb trail n) rest);
-      trail-room = ltb-false trail n (or-off-r (ltb distances k) (ltb trail n) rest);
-    }
-
--- what the exploration relies on
-pub given : {n d table start : ℕ} (vectors query : List ℤ) → StartOk n d (length vectors) table (length query) start → Given n d vectors query
-given vectors query ok = record { set-given = ok .set-given; query-is = ok .query-is }
-
--- ---- at first
+use Rattle.search.specs.Seen.{Lined}
 
 -- cells that are all 0
 pub zeros-at : (m y : ℕ) → _≡_ {A = ℕ} (getD (replicate m 0) y 0) 0
