@@ -1,4 +1,5 @@
 -- The laws that the functions' proofs cite.
+pub mod Held
 pub mod Three
 pub mod Signs
 pub mod Reading
