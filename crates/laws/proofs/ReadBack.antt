@@ -52,7 +52,11 @@ module _ (k : Contents) (w : Writable k) where
   abbrev Zs : List Bool
   Zs = zeros (byteCount (length (sheetBits k)) * 8 - length (sheetBits k))
 
-  is : unpacked (sheet k) ≡ headBits (k .n) (k .d) (k .c) (k .asks) ++ (Vs ++ (As ++ Zs))
+  -- what follows the header
+  abbrev Rest : List Bool
+  Rest = Vs ++ (As ++ Zs)
+
+  is : unpacked (sheet k) ≡ headBits (k .n) (k .d) (k .c) (k .asks) ++ Rest
   unfolding sheet filled sheetBits
   is = unpacked-bytesOf (sheetBits k) ∙ simp append-assoc
 
@@ -61,31 +65,34 @@ module _ (k : Contents) (w : Writable k) where
   points-back =
       let e : k .n - 1 + 1 ≡ k .n = omega (arith, w .some-points) in
       ap (λ (u : List Bool). number (take 7 (drop 0 u)) + 1) is
-      ∙ ap (λ (x : ℕ). x + 1) (row-1 7 6 3 8 (k .n - 1) (k .d - 1) (k .c - 1) (k .asks) (Vs ++ (As ++ Zs)) (omega (arith, w))) ∙ e
+      ∙ ap (λ (x : ℕ). x + 1) (row-1 7 6 3 8 (k .n - 1) (k .d - 1) (k .c - 1) (k .asks) Rest (omega (arith, w)))
+      ∙ e
 
   pub coords-back : coords (sheet k) ≡ k .d
   unfolding coords fieldAt headBits
   coords-back =
       let e : k .d - 1 + 1 ≡ k .d = omega (arith, w .some-coordinates) in
       ap (λ (u : List Bool). number (take 6 (drop 7 u)) + 1) is
-      ∙ ap (λ (x : ℕ). x + 1) (row-2 7 6 3 8 (k .n - 1) (k .d - 1) (k .c - 1) (k .asks) (Vs ++ (As ++ Zs)) (omega (arith, w))) ∙ e
+      ∙ ap (λ (x : ℕ). x + 1) (row-2 7 6 3 8 (k .n - 1) (k .d - 1) (k .c - 1) (k .asks) Rest (omega (arith, w)))
+      ∙ e
 
   pub width-back : width (sheet k) ≡ k .c
   unfolding width fieldAt headBits
   width-back =
       let e : k .c - 1 + 1 ≡ k .c = omega (arith, w .some-width) in
       ap (λ (u : List Bool). number (take 3 (drop 13 u)) + 1) is
-      ∙ ap (λ (x : ℕ). x + 1) (row-3 7 6 3 8 (k .n - 1) (k .d - 1) (k .c - 1) (k .asks) (Vs ++ (As ++ Zs)) (omega (arith, w))) ∙ e
+      ∙ ap (λ (x : ℕ). x + 1) (row-3 7 6 3 8 (k .n - 1) (k .d - 1) (k .c - 1) (k .asks) Rest (omega (arith, w)))
+      ∙ e
 
   pub asks-back : askCount (sheet k) ≡ k .asks
   unfolding askCount fieldAt headBits
   asks-back =
       ap (λ (u : List Bool). number (take 8 (drop 16 u))) is
-      ∙ row-4 7 6 3 8 (k .n - 1) (k .d - 1) (k .c - 1) (k .asks) (Vs ++ (As ++ Zs)) (omega (arith, w))
+      ∙ row-4 7 6 3 8 (k .n - 1) (k .d - 1) (k .c - 1) (k .asks) Rest (omega (arith, w))
 
-  past-head : drop 24 (unpacked (sheet k)) ≡ Vs ++ (As ++ Zs)
+  past-head : drop 24 (unpacked (sheet k)) ≡ Rest
   unfolding headBits
-  past-head = ap (drop 24) is ∙ row-past 7 6 3 8 (k .n - 1) (k .d - 1) (k .c - 1) (k .asks) (Vs ++ (As ++ Zs))
+  past-head = ap (drop 24) is ∙ row-past 7 6 3 8 (k .n - 1) (k .d - 1) (k .c - 1) (k .asks) Rest
 
   pub vectors-back : vectorsOf (sheet k) ≡ k .vectors
   unfolding vectorsOf

@@ -1,5 +1,5 @@
 -- What a sheet's contents are where the writer does not refuse them, and what a sheet is where reading does not refuse it. Assumes nothing.
-use mathlib.Core.Path.{_≡_}
+use mathlib.Core.Path.{_≡_, refl, sym, _∙_}
 use mathlib.Core.Bool.{true, not, _&&_, _||_}
 use mathlib.Core.List.{List, [], _∷_}
 use Prim.Native.Nat.{ℕ, _+_, _*_, _≤_}
@@ -33,75 +33,74 @@ pub record Writable (k : Contents) : Type 0 where
   pub vectors-fit : allFit (k .c) (k .vectors) ≡ true
   pub queries-fit : allFit (k .c) (k .queries) ≡ true
 
--- the limits and the lengths: 1, 2, 11, 12, 3, 5
-unfoldable pub shapeRefusal : (n d c asks vectors numbers queries : ℕ) → ℕ
-shapeRefusal n d c asks vectors numbers queries =
+-- the writer's order in three parts. The limits and the lengths: 1, 2, 11, 12, 3, 5
+unfoldable pub shapeOf : Contents → ℕ
+shapeOf k =
     firstOf
-    (refuse1 n
-    ∷ refuse2 d
-    ∷ refuse11 c
-    ∷ refuse12 asks numbers
-    ∷ refuse3 n d vectors
-    ∷ refuse5 (asks * d) queries
+    (refuse1 (k .n)
+    ∷ refuse2 (k .d)
+    ∷ refuse11 (k .c)
+    ∷ refuse12 (k .asks) (length (k .numbers))
+    ∷ refuse3 (k .n) (k .d) (length (k .vectors))
+    ∷ refuse5 (k .asks * k .d) (length (k .queries))
     ∷ [])
 
-pub record Shaped (n d c asks vectors numbers queries : ℕ) : Type 0 where
-  pub points : (1 ≤ n) × (n ≤ 128)
-  pub coordinates : (1 ≤ d) × (d ≤ 64)
-  pub width : (1 ≤ c) × (c ≤ 8)
-  pub asks-few : asks ≤ 127
-  pub numbers-are : numbers ≡ 4 * asks
-  pub vectors-are : vectors ≡ n * d
-  pub queries-are : queries ≡ asks * d
+-- then ask by ask
+abbrev pub asksOf : Contents → ℕ
+asksOf k = asksRefusal (k .asks) (k .numbers)
 
-pub shaped : (n d c asks vectors numbers queries : ℕ) → shapeRefusal n d c asks vectors numbers queries ≡ 0
-    → Shaped n d c asks vectors numbers queries
-unfolding shapeRefusal
-shaped n d c asks vectors numbers queries e =
-    let p₁ = skipped (outside 1 128 n) 0 _ e in
-    let p₂ = skipped (outside 1 64 d) 1 _ (p₁ .1) in
-    let p₃ = skipped (outside 1 8 c) 10 _ (p₂ .1) in
-    let p₄ = skipped (ltb 127 asks || differ numbers (4 * asks)) 11 _ (p₃ .1) in
-    let p₅ = skipped (differ vectors (n * d)) 2 _ (p₄ .1) in
-    let p₆ = skipped (differ queries (asks * d)) 4 _ (p₅ .1) in
-    record {
-      points = inside 1 128 n (p₁ .0);
-      coordinates = inside 1 64 d (p₂ .0);
-      width = inside 1 8 c (p₃ .0);
-      asks-few = ltb-false 127 asks (or-off (ltb 127 asks) (differ numbers (4 * asks)) (p₄ .0));
-      numbers-are = alike numbers (4 * asks) (or-off-r (ltb 127 asks) (differ numbers (4 * asks)) (p₄ .0));
-      vectors-are = alike vectors (n * d) (p₅ .0);
-      queries-are = alike queries (asks * d) (p₆ .0);
-    }
-
-abbrev pub shapeOf : Contents → ℕ
-shapeOf k = shapeRefusal (k .n) (k .d) (k .c) (k .asks) (length (k .vectors)) (length (k .numbers)) (length (k .queries))
-
-abbrev pub ShapedOf : Contents → Type 0
-ShapedOf k = Shaped (k .n) (k .d) (k .c) (k .asks) (length (k .vectors)) (length (k .numbers)) (length (k .queries))
-
-pub shaped-of : (k : Contents) → shapeOf k ≡ 0 → ShapedOf k
-shaped-of k e = shaped (k .n) (k .d) (k .c) (k .asks) (length (k .vectors)) (length (k .numbers)) (length (k .queries)) e
-
-abbrev refusalAt : Contents → ℕ → ℕ
-refusalAt k output = writerRefusal (k .n) (k .d) (k .c) (k .asks) (k .vectors) (k .numbers) (k .queries) output
-
-abbrev lengthOf : Contents → ℕ
+-- and last 13 and 14
+abbrev pub lengthOf : Contents → ℕ
 lengthOf k = sheetLength (k .n) (k .d) (k .c) (k .asks)
 
--- what comes after the limits, the lengths and the asks: 13, 14
-abbrev lastOf : Contents → ℕ → ℕ
+abbrev pub lastOf : Contents → ℕ → ℕ
 lastOf k output = firstOf (refuse13 (k .c) (k .vectors) (k .queries) ∷ refuse14 (lengthOf k) output ∷ [])
+
+abbrev pub refusalAt : Contents → ℕ → ℕ
+refusalAt k output = writerRefusal (k .n) (k .d) (k .c) (k .asks) (k .vectors) (k .numbers) (k .queries) output
+
+pub in-parts : (k : Contents) (output : ℕ) → refusalAt k output ≡ orElse (shapeOf k) (orElse (asksOf k) (lastOf k output))
+unfolding writerRefusal shapeOf
+in-parts k output = refl
+
+-- what is known where the first part gives no refusal
+pub record Shaped (k : Contents) : Type 0 where
+  pub points : (1 ≤ k .n) × (k .n ≤ 128)
+  pub coordinates : (1 ≤ k .d) × (k .d ≤ 64)
+  pub width : (1 ≤ k .c) × (k .c ≤ 8)
+  pub asks-few : k .asks ≤ 127
+  pub numbers-are : length (k .numbers) ≡ 4 * k .asks
+  pub vectors-are : length (k .vectors) ≡ k .n * k .d
+  pub queries-are : length (k .queries) ≡ k .asks * k .d
+
+pub shaped : (k : Contents) → shapeOf k ≡ 0 → Shaped k
+unfolding shapeOf
+shaped k e =
+    let many = ltb 127 (k .asks) in
+    let unlike = differ (length (k .numbers)) (4 * k .asks) in
+    let p₁ = skipped (outside 1 128 (k .n)) 0 _ e in
+    let p₂ = skipped (outside 1 64 (k .d)) 1 _ (p₁ .1) in
+    let p₃ = skipped (outside 1 8 (k .c)) 10 _ (p₂ .1) in
+    let p₄ = skipped (many || unlike) 11 _ (p₃ .1) in
+    let p₅ = skipped (differ (length (k .vectors)) (k .n * k .d)) 2 _ (p₄ .1) in
+    let p₆ = skipped (differ (length (k .queries)) (k .asks * k .d)) 4 _ (p₅ .1) in
+    record {
+      points = inside 1 128 (k .n) (p₁ .0);
+      coordinates = inside 1 64 (k .d) (p₂ .0);
+      width = inside 1 8 (k .c) (p₃ .0);
+      asks-few = ltb-false 127 (k .asks) (or-off many unlike (p₄ .0));
+      numbers-are = alike (length (k .numbers)) (4 * k .asks) (or-off-r many unlike (p₄ .0));
+      vectors-are = alike (length (k .vectors)) (k .n * k .d) (p₅ .0);
+      queries-are = alike (length (k .queries)) (k .asks * k .d) (p₆ .0);
+    }
 
 -- contents that are not refused, with room for the sheet
 pub writable : (k : Contents) (output : ℕ) → refusalAt k output ≡ 0 → Writable k × (lengthOf k ≤ output)
-unfolding writerRefusal shapeRefusal
 writable k output e =
-    let asks = asksRefusal (k .asks) (k .numbers) in
     let fit = allFit (k .c) (k .vectors) && allFit (k .c) (k .queries) in
-    let p = else-both (shapeOf k) (orElse asks (lastOf k output)) e in
-    let q = else-both asks (lastOf k output) (p .1) in
-    let s = shaped-of k (p .0) in
+    let p = else-both (shapeOf k) (orElse (asksOf k) (lastOf k output)) (sym (in-parts k output) ∙ e) in
+    let q = else-both (asksOf k) (lastOf k output) (p .1) in
+    let s = shaped k (p .0) in
     let x = skipped (not fit) 12 _ (q .1) in
     let y = skipped (ltb output (lengthOf k)) 13 _ (x .1) in
     let all = not-false fit (x .0) in (

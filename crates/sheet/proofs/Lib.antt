@@ -1,4 +1,6 @@
 -- The laws that the functions' proofs cite.
+pub mod Held
+pub mod Shifts
 pub mod Three
 pub mod Signs
 pub mod Reading
@@ -10,5 +12,5 @@ pub mod PuttingValues
 pub mod Asking
 pub mod Bytewise
 pub mod Whole
-pub mod Trips
 pub mod Told
+pub mod Trips

@@ -11,6 +11,7 @@ use lib.Arith.{digits-lt}
 use lib.Pow.{shr-lt, shl-lt, shl-shr, shr-shr, pow-pos, pow-mono, pow-add, mod-pow-add}
 use Rattle.rules.specs.Bits.{bit, odd, bits}
 use Rattle.laws.proofs.Bits.{bit-odd, bits-suc, length-bits}
+use Rattle.sheet.proofs.Shifts.{power-one}
 use Rattle.sheet.specs.Put.{putIn, putBit, putBits}
 
 -- ---- their equations
@@ -115,13 +116,7 @@ module _ (x m k v : ℕ) (hx : x < 256) (some : 1 ≤ k) (few : m + k ≤ 8) whe
   sum = kept * 2 ^ k % 4294967296 + low
 
   power-is : 1 * 2 ^ k % 4294967296 ≡ 2 ^ k
-  power-is =
-      let l : 2 ^ k ≤ 256 = pow-mono {j = 8} (omega arith) in
-      let h : 1 * 2 ^ k < 4294967296 = omega arith in
-      mod-eq-of-lt h ∙ omega arith
-
-  pub power-some : 0 < 1 * 2 ^ k % 4294967296
-  power-some = rw power-is (pow-pos k)
+  power-is = power-one k (omega arith)
 
   kept-lt : kept < 2 ^ m
   kept-lt = let e : m + (8 - m) ≡ 8 = omega arith in let h : x < 2 ^ (m + (8 - m)) = rw e hx in shr-lt m (8 - m) h

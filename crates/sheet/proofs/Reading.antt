@@ -4,7 +4,6 @@ use mathlib.Core.Logic.{_≢_}
 use mathlib.Core.Bool.{false}
 use mathlib.Core.List.{List}
 use Prim.Native.Nat.{ℕ, _+_, _-_, _*_, _/_, _≤_, _<_, min}
-use native.Mathlib.Nat.{mul-le-mul}
 use native.Mathlib.Omega.{arith}
 use lib.ListN.{length}
 use lib.Dec.{leb}
@@ -12,7 +11,7 @@ use borrow.Author.Tests.{lt-ltb, le-ltb, le-leb, lt-leb, eq-eqb, ne-eqb}
 use Rattle.rules.specs.Bits.{byteCount}
 use Rattle.rules.specs.Sheet.{bitCount, sheetLength, points, coords, width, askCount, required, filling, fieldAt}
 use Rattle.rules.specs.Refusals.{sheetRefusal, vectorsRefusal, oneAskRefusal}
-use Rattle.laws.proofs.Refusals.{else-none, else-some}
+use Rattle.laws.proofs.Refusals.{else-none, else-some, small-product}
 use Rattle.laws.proofs.Fields.{points-small, coords-small, width-small}
 use Rattle.laws.proofs.Writable.{read-none}
 use Rattle.sheet.specs.declared.Head.{Head}
@@ -73,7 +72,7 @@ module _ (ys : List ℕ) (h : Head) (is : h ≡ headOf ys) where
   head-small = omega (arith, n-is, d-is, c-is, points-small ys, coords-small ys, width-small ys)
 
   pub product-small : h .n * h .d ≤ 8192
-  product-small = mul-le-mul (head-small .0) (head-small .1)
+  product-small = small-product (h .n) (h .d) (head-small .0) (head-small .1)
 
   pub asks-over : 3 ≤ length ys → 127 < h .asks → 12 ≡ sheetRefusal ys
   asks-over header l = many-asks ys header (omega (arith, asks-is))

@@ -1,5 +1,5 @@
 -- The writer's refusals: ask by ask, and the whole order, over what the code has in hand. Assumes nothing.
-use mathlib.Core.Path.{_≡_, refl, sym, ap, _∙_}
+use mathlib.Core.Path.{_≡_, sym, ap, _∙_}
 use mathlib.Core.Logic.{_≢_}
 use mathlib.Core.Bool.{true, false}
 use mathlib.Core.List.{List, [], _∷_}
@@ -10,11 +10,11 @@ use lib.Seq.{getD-drop, drop-drop}
 use borrow.Author.Tests.{lt-ltb, le-ltb}
 use Rattle.rules.specs.Bits.{allFit, byteCount}
 use Rattle.rules.specs.Sheet.{Contents, bitCount, sheetLength}
-use Rattle.rules.specs.Outcome.{firstOf, orElse}
-use Rattle.rules.specs.Refusals.{refuse13, refuse14, askRefusal, asksRefusal, writerRefusal}
+use Rattle.rules.specs.Outcome.{orElse}
+use Rattle.rules.specs.Refusals.{askRefusal, asksRefusal}
 use Rattle.laws.proofs.Refusals.{else-none, else-some}
 use Rattle.laws.proofs.Numbers.{asks-suc}
-use Rattle.laws.proofs.Writable.{shapeRefusal, shapeOf}
+use Rattle.laws.proofs.Writable.{shapeOf, asksOf, lengthOf, lastOf, refusalAt, in-parts}
 
 -- ---- one ask
 
@@ -53,34 +53,21 @@ asks-start asks ns = let e : asks - 0 ≡ asks = omega arith in rw e
 -- ---- the whole order: each refusal, where those before it did not come
 
 module _ (k : Contents) (output : ℕ) where
-  abbrev asks : ℕ
-  asks = asksRefusal (k .asks) (k .numbers)
-
-  abbrev needed : ℕ
-  needed = sheetLength (k .n) (k .d) (k .c) (k .asks)
-
-  abbrev last : ℕ
-  last = firstOf (refuse13 (k .c) (k .vectors) (k .queries) ∷ refuse14 needed output ∷ [])
-
   abbrev due : ℕ
-  due = writerRefusal (k .n) (k .d) (k .c) (k .asks) (k .vectors) (k .numbers) (k .queries) output
-
-  order : due ≡ orElse (shapeOf k) (orElse asks last)
-  unfolding writerRefusal shapeRefusal
-  order = refl
+  due = refusalAt k output
 
   pub by-shape : {r : ℕ} → r ≡ shapeOf k → r ≢ 0 → r ≡ due
-  by-shape e d = e ∙ sym (order ∙ else-some (λ z. d (e ∙ z)) _)
+  by-shape e d = e ∙ sym (in-parts k output ∙ else-some (λ z. d (e ∙ z)) _)
 
   module _ (shape-ok : shapeOf k ≡ 0) where
-    then-asks : due ≡ orElse asks last
-    then-asks = order ∙ else-none shape-ok _
+    then-asks : due ≡ orElse (asksOf k) (lastOf k output)
+    then-asks = in-parts k output ∙ else-none shape-ok _
 
-    pub by-asks : {r : ℕ} → r ≡ asks → r ≢ 0 → r ≡ due
+    pub by-asks : {r : ℕ} → r ≡ asksOf k → r ≢ 0 → r ≡ due
     by-asks e d = e ∙ sym (then-asks ∙ else-some (λ z. d (e ∙ z)) _)
 
-    module _ (asks-ok : asks ≡ 0) where
-      then-last : due ≡ last
+    module _ (asks-ok : asksOf k ≡ 0) where
+      then-last : due ≡ lastOf k output
       then-last = then-asks ∙ else-none asks-ok _
 
       pub by-vectors : allFit (k .c) (k .vectors) ≡ false → 13 ≡ due
@@ -91,12 +78,12 @@ module _ (k : Contents) (output : ℕ) where
         by-queries e = sym (then-last ∙ rw (vectors-fit, e))
 
         module _ (queries-fit : allFit (k .c) (k .queries) ≡ true) {bits : ℕ} (count : bits ≡ bitCount (k .n) (k .d) (k .c) (k .asks)) where
-          bytes-are : (bits + 7) / 8 ≡ needed
+          bytes-are : (bits + 7) / 8 ≡ lengthOf k
           unfolding sheetLength byteCount
           bytes-are = ap (λ (x : ℕ). (x + 7) / 8) count
 
           pub by-room : output < (bits + 7) / 8 → 14 ≡ due
-          by-room h = sym (then-last ∙ rw (vectors-fit, queries-fit, lt-ltb output needed (omega (arith, bytes-are))))
+          by-room h = sym (then-last ∙ rw (vectors-fit, queries-fit, lt-ltb output (lengthOf k) (omega (arith, bytes-are))))
 
           pub by-none : (bits + 7) / 8 ≤ output → 0 ≡ due
-          by-none h = sym (then-last ∙ rw (vectors-fit, queries-fit, le-ltb output needed (omega (arith, bytes-are))))
+          by-none h = sym (then-last ∙ rw (vectors-fit, queries-fit, le-ltb output (lengthOf k) (omega (arith, bytes-are))))

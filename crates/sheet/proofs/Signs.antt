@@ -3,7 +3,6 @@ use mathlib.Core.Path.{_≡_, refl, sym, ap, _∙_, subst}
 use mathlib.Core.Bool.{Bool, true, false, _&&_}
 use mathlib.Core.List.{List}
 use Prim.Native.Nat.{ℕ, zero, suc, _+_, _-_, _*_, _%_, _^_, _≤_, _<_}
-use native.Mathlib.Nat.{mod-eq-of-lt}
 use native.Mathlib.Omega.{arith}
 use lib.Dec.{T, ltb}
 use lib.Pow.{pow-pos, pow-mono}
@@ -17,6 +16,7 @@ use mir.Val.{Fits, SFits, toZ, ofZ}
 use mir.ValLaws.{toZ-ofZ}
 use Rattle.rules.specs.Bits.{signed, signedBy, twos, fits, allFit}
 use Rattle.laws.proofs.Values.{half}
+use Rattle.sheet.proofs.Shifts.{shifted, power-one}
 
 -- ---- a magnitude below 128 with either sign
 
@@ -53,7 +53,7 @@ module _ (c : ℕ) (some : 1 ≤ c) (few : c ≤ 8) where
   small-half = pow-mono {j = 7} (omega arith)
 
   pub half-is : H ≡ 2 ^ (c - 1)
-  half-is = let l : 1 * 2 ^ (c - 1) < 65536 = omega (arith, small-half) in mod-eq-of-lt l ∙ omega arith
+  half-is = shifted (c - 1) 65536 (omega (arith, small-half))
 
   pub half-small : (1 ≤ H) × (H ≤ 128)
   half-small = omega (arith, half-is, small-half, pow-pos (c - 1))
@@ -152,10 +152,7 @@ fits-is c (negsuc n) = refl
 
 pub fits-by : (c : ℕ) (z : ℤ) (m : ℕ) → SFits w8 z → c ≤ 8 → m ≡ mag (again z) → ltb m (1 * 2 ^ (c - 1) % 4294967296) ≡ fits c z
 fits-by c z m f h e =
-    let l : 2 ^ (c - 1) ≤ 128 = pow-mono {j = 7} (omega arith) in
-    let k : 1 * 2 ^ (c - 1) < 4294967296 = omega arith in
-    let p : 1 * 2 ^ (c - 1) % 4294967296 ≡ 2 ^ (c - 1) = mod-eq-of-lt k ∙ omega arith in
-    rw (e, toZ-ofZ w8 z f, p) (fits-is c z)
+    rw (e, toZ-ofZ w8 z f, power-one (c - 1) (omega arith)) (fits-is c z)
 
 -- ---- whether all do, from i on
 

@@ -3,7 +3,7 @@ use mathlib.Core.Path.{_≡_, sym, ap, ap₂, _∙_}
 use mathlib.Core.Bool.{Bool}
 use mathlib.Core.List.{List, [], _∷_, _++_, append-assoc}
 use Prim.Native.Nat.{ℕ, _+_, _-_, _*_, _/_, _%_, _^_, _≤_, _<_}
-use native.Mathlib.Nat.{div-add-mod', mod-lt, mod-eq-of-lt, lt-of-lt-of-le}
+use native.Mathlib.Nat.{div-add-mod', mod-lt, lt-of-lt-of-le}
 use native.Mathlib.Omega.{arith}
 use lib.ListN.{length, take, drop, getD, length-append, length-drop}
 use lib.Seq.{drop-drop, getD-drop}
@@ -12,6 +12,7 @@ use Rattle.rules.specs.Bits.{bits, number, unpacked, Bytes}
 use Rattle.rules.specs.Sheet.{fieldAt}
 use Rattle.laws.proofs.Bits.{length-bits, number-append, number-bits-lt}
 use Rattle.laws.proofs.Fields.{number-part, drop-unpacked, part-in}
+use Rattle.sheet.proofs.Shifts.{power-one}
 
 -- three bytes as one number of 24 bits, and as bits
 abbrev pub whole : ℕ → ℕ → ℕ → ℕ
@@ -89,15 +90,6 @@ field-in-three ys at w small some few h =
     ∙ rw (getD-drop i ys 0 0, getD-drop i ys 1 0, getD-drop i ys 2 0, z)
 
 -- what the code computes it by
-pub power-one : (w : ℕ) → w ≤ 16 → 1 * 2 ^ w % 4294967296 ≡ 2 ^ w
-power-one w h =
-    let l : 2 ^ w ≤ 65536 = pow-mono {j = 16} h in
-    let m : 1 * 2 ^ w < 4294967296 = omega arith in
-    mod-eq-of-lt m ∙ omega arith
-
-pub power-some : (w : ℕ) → w ≤ 16 → 1 ≤ 1 * 2 ^ w % 4294967296
-power-some w h = rw (power-one w h) (pow-pos w)
-
 pub cut-small : (x w : ℕ) → w ≤ 16 → x % (1 * 2 ^ w % 4294967296) < 2 ^ 16
 cut-small x w h = rw (power-one w h) (lt-of-lt-of-le (mod-lt x (pow-pos w)) (pow-mono {j = 16} h))
 

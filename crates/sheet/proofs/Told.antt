@@ -21,7 +21,7 @@ module _ {A : Type 0} where
   same-number : (r s : ℕ) → _≡_ {A = Outcome A} (refused r) (refused s) → r ≡ s
   same-number r s e = cc
 
-  same-value : (a b : A) → _≡_ {A = Outcome A} (gives a) (gives b) → a ≡ b
+  pub same-value : (a b : A) → _≡_ {A = Outcome A} (gives a) (gives b) → a ≡ b
   same-value a b e = cc
 
   turned : (r : ℕ) (a : A) → _≡_ {A = Outcome A} (gives a) (refused r) → ⊥

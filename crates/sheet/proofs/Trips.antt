@@ -10,7 +10,7 @@ use lib.IntN.{ℤ, pos}
 use borrow.Author.Tests.{lt-leb, eq-eqb}
 use Rattle.rules.specs.Bits.{Bytes}
 use Rattle.rules.specs.Sheet.{Contents, sheet, points, coords, width, askCount, vectorsOf, askNumbers, askQuery, contentsOf}
-use Rattle.rules.specs.Outcome.{Outcome, gives, outcome, over}
+use Rattle.rules.specs.Outcome.{gives, outcome, over}
 use Rattle.rules.specs.Refusals.{sheetRefusal, vectorsRefusal, oneAskRefusal}
 use Rattle.rules.specs.Entries.{Header, headerAnswer, vectorsAfter, numbersOf, askAnswer, queryAfter, writeRefused, writeAnswer, outputAfter}
 use Rattle.laws.proofs.Refusals.{else-none, outcome-gives, outcome-none, outcome-value, after-new}
@@ -20,10 +20,7 @@ use Rattle.laws.proofs.ReadBack.{read-back, sheet-read}
 use Rattle.laws.proofs.WriteBack.{write-back, read-writable, write-again}
 use Rattle.laws.proofs.OneAsk.{one-numbers, one-query}
 use Rattle.sheet.specs.AsRead.{AsRead, numbersAt}
-
-module _ {A : Type 0} where
-  same-gives : {a b : A} → _≡_ {A = Outcome A} (gives a) (gives b) → a ≡ b
-  same-gives e = cc
+use Rattle.sheet.proofs.Told.{same-value}
 
 -- ---- what the readers give of any sheet that is not refused
 
@@ -158,7 +155,7 @@ module _ (ys : List ℕ) (small : Bytes ys) (k : Contents) (was : AsRead ys k) w
           (four-same (numbersAt (contentsOf ys) i) (numbersAt k i)
           (length-take-le 4 (drop (4 * i) (contentsOf ys .numbers)) (rw length-drop (omega arith)))
           (length-take-le 4 (drop (4 * i) (k .numbers)) (rw length-drop (omega (arith, was .numbers-are))))
-          (same-gives (sym (said .numbers i (rw asks-is l) buffer (buffer-is ∙ sym d-is)) ∙ was .numbers i l buffer buffer-is)))
+          (same-value _ _ (sym (said .numbers i (rw asks-is l) buffer (buffer-is ∙ sym d-is)) ∙ was .numbers i l buffer buffer-is)))
 
   queries-same : contentsOf ys .queries ≡ k .queries
   unfolding contentsOf

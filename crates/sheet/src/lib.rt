@@ -77,7 +77,8 @@ pub fn header(sheet: &[u8]) -> Headed
 
 // Reads the vectors into a buffer of n × d cells. Answers the refusal, 0 for none.
 pub fn vectors(sheet: &[u8], buffer: &mut [i8]) -> u8
-    ensures { λ r. ⌜ (r ≡ vectorsRefusal (now (sheet .entry)) (length (now (buffer .entry)))) × (now (buffer .exit) ≡ vectorsAfter (now (sheet .entry)) (now (buffer .entry))) ⌝ }
+    ensures { λ r. ⌜ (r ≡ vectorsRefusal (now (sheet .entry)) (length (now (buffer .entry))))
+        × (now (buffer .exit) ≡ vectorsAfter (now (sheet .entry)) (now (buffer .entry))) ⌝ }
 {
     let refusal = read::vectors_refusal(sheet, buffer.len());
     if refusal != 0 {
@@ -90,7 +91,8 @@ pub fn vectors(sheet: &[u8], buffer: &mut [i8]) -> u8
 
 // Reads the four numbers of one ask, and its query into a buffer of d cells.
 pub fn ask(sheet: &[u8], number: u16, query: &mut [i8]) -> Asked
-    ensures { λ r. ⌜ (askTold r ≡ askAnswer (now (sheet .entry)) number (now (query .entry))) × (now (query .exit) ≡ queryAfter (now (sheet .entry)) number (now (query .entry))) ⌝ }
+    ensures { λ r. ⌜ (askTold r ≡ askAnswer (now (sheet .entry)) number (now (query .entry)))
+        × (now (query .exit) ≡ queryAfter (now (sheet .entry)) number (now (query .entry))) ⌝ }
 {
     let refusal = read::one_ask_refusal(sheet, number, query.len());
     if refusal != 0 {

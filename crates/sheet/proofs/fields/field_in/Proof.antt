@@ -4,7 +4,8 @@ use mathlib.Core.Path.{sym, _∙_}
 use Prim.Native.Nat.{_-_, _/_, _%_, _^_}
 use native.Mathlib.Omega.{arith}
 use Rattle.rules.specs.Bits.{Bytes}
-use Rattle.sheet.proofs.Three.{power-some, cut-small, cut-is, field-in-three}
+use Rattle.sheet.proofs.Shifts.{power-some}
+use Rattle.sheet.proofs.Three.{cut-small, cut-is, field-in-three}
 use Rattle.sheet.proofs.fields.field_in.Statement.{statement}
 use Rattle.sheet.proofs.fields.field_in.Tie as tie
 

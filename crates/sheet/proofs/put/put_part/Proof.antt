@@ -4,7 +4,8 @@ use native.Mathlib.Omega.{arith}
 use mathlib.Core.Path.{sym, ap, _∙_}
 use Prim.Native.Nat.{ℕ, _/_, _%_, _<_}
 use lib.ListN.{getD, set}
-use Rattle.sheet.proofs.Putting.{power-some, sum-small, byte-small, byte-is, put-part-some}
+use Rattle.sheet.proofs.Shifts.{power-some}
+use Rattle.sheet.proofs.Putting.{sum-small, byte-small, byte-is, put-part-some}
 use Rattle.sheet.proofs.put.put_part.Statement.{statement}
 use Rattle.sheet.proofs.put.put_part.Tie as tie
 
@@ -45,7 +46,7 @@ shl-out c = search needs
 rem-out : tie.Need-rem-out
 rem-out c =
     let s = c .before in
-    power-some (byte c) (s .args .at % 8) (s .args .k) (s .args .v) (byte-lt c) (s .pre .0) (s .pre .1)
+    power-some (s .args .k) (omega arith)
 
 add-out : tie.Need-add-out
 add-out c =

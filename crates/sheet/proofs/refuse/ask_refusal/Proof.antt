@@ -18,26 +18,12 @@ start₂ c = start₁ (c .before .before .before)
 abbrev start₃ : tie.Else3 → tie.Start
 start₃ c = start₂ (c .before .before .before)
 
--- width and k are widened before they are tested
-width-test : (c : tie.After-is-outside) → outside 1 128 (start₁ (c .before .before) .args .width) ≡ c .is-outside .result
-width-test c = sym (c .is-outside .ensures ∙ ap (outside 1 128) (c .before .wide .ensures .0))
-
-k-test : (c : tie.After-is-outside2) → outside 1 128 (start₂ (c .before .before) .args .k) ≡ c .is-outside2 .result
-k-test c = sym (c .is-outside2 .ensures ∙ ap (outside 1 128) (c .before .wide2 .ensures .0))
-
--- what those tests tell
-start-ok : (c : tie.Else1) → leb 128 (start₁ c .args .start) ≡ false
-start-ok c = lt-leb _ _ (c .if1 .left)
-
-width-ok : (c : tie.Else2) → outside 1 128 (start₂ c .args .width) ≡ false
-width-ok c = width-test (c .before) ∙ c .if2 .left
-
-k-ok : (c : tie.Else3) → outside 1 128 (start₃ c .args .k) ≡ false
-k-ok c = k-test (c .before) ∙ c .if3 .left
-
 returns : tie.Need-returns
 unfolding askRefusal
 returns c = simp (le-leb _ _ (c .if1 .taken))
+
+start-ok : (c : tie.Else1) → leb 128 (start₁ c .args .start) ≡ false
+start-ok c = lt-leb _ _ (c .if1 .left)
 
 wide-requires : tie.Need-wide-requires
 wide-requires c κs = search needs
@@ -45,9 +31,16 @@ wide-requires c κs = search needs
 is-outside-requires : tie.Need-is-outside-requires
 is-outside-requires c κs = search needs
 
+-- width is widened before it is tested
 returns-2 : tie.Need-returns-2
 unfolding askRefusal
-returns-2 c = simp (start-ok (c .before .before .before), width-test (c .before) ∙ c .if2 .taken)
+returns-2 c =
+    let tested = c .before in
+    let test = tested .is-outside .ensures ∙ ap (outside 1 128) (tested .before .wide .ensures .0) in
+    simp (start-ok (tested .before .before), sym test ∙ c .if2 .taken)
+
+width-ok : (c : tie.Else2) → outside 1 128 (start₂ c .args .width) ≡ false
+width-ok c = sym (c .before .is-outside .ensures ∙ ap (outside 1 128) (c .before .before .wide .ensures .0)) ∙ c .if2 .left
 
 wide-requires-2 : tie.Need-wide-requires-2
 wide-requires-2 c κs = search needs
@@ -55,11 +48,17 @@ wide-requires-2 c κs = search needs
 is-outside-requires-2 : tie.Need-is-outside-requires-2
 is-outside-requires-2 c κs = search needs
 
+-- and k
 returns-3 : tie.Need-returns-3
 unfolding askRefusal
 returns-3 c =
-    let c₂ = c .before .before .before in
-    simp (start-ok (c₂ .before .before .before), width-ok c₂, k-test (c .before) ∙ c .if3 .taken)
+    let tested = c .before in
+    let test = tested .is-outside2 .ensures ∙ ap (outside 1 128) (tested .before .wide2 .ensures .0) in
+    let c₂ = tested .before .before in
+    simp (start-ok (c₂ .before .before .before), width-ok c₂, sym test ∙ c .if3 .taken)
+
+k-ok : (c : tie.Else3) → outside 1 128 (start₃ c .args .k) ≡ false
+k-ok c = sym (c .before .is-outside2 .ensures ∙ ap (outside 1 128) (c .before .before .wide2 .ensures .0)) ∙ c .if3 .left
 
 returns-4 : tie.Need-returns-4
 unfolding askRefusal

@@ -9,7 +9,7 @@ use lib.Dec.{ltb}
 use borrow.Author.Tests.{ltb-false, eq-eqb, ne-eqb}
 use Rattle.rules.specs.Refusals.{outside, differ}
 use Rattle.laws.proofs.Tests.{or-off}
-use Rattle.laws.proofs.Refusals.{inside}
+use Rattle.laws.proofs.Refusals.{inside, small-product}
 use Rattle.sheet.proofs.refuse.shape_refusal.Statement.{statement}
 use Rattle.sheet.proofs.refuse.shape_refusal.Tie as tie
 
@@ -73,7 +73,7 @@ mul-if5 c =
     let c₂ = c .before .before .before .before in
     let n-few = inside 1 128 (start₄ c .args .n) (n-ok (c₂ .before .before)) .1 in
     let d-few = inside 1 64 (start₄ c .args .d) (d-ok c₂) .1 in
-    omega (arith, mul-le-mul n-few d-few)
+    omega (arith, small-product (start₄ c .args .n) (start₄ c .args .d) n-few d-few)
 
 returns-5 : tie.Need-returns-5
 returns-5 c =

@@ -5,8 +5,7 @@ use mathlib.Core.Bool.{true}
 use borrow.Author.Tests.{not-true, not-false}
 use Rattle.rules.specs.Bits.{allFit}
 use Rattle.rules.specs.Sheet.{Contents, contents}
-use Rattle.rules.specs.Refusals.{asksRefusal}
-use Rattle.laws.proofs.Writable.{shapeRefusal, shapeOf, ShapedOf, shaped-of}
+use Rattle.laws.proofs.Writable.{shapeOf, asksOf, Shaped, shaped}
 use Rattle.sheet.proofs.Refusing.{by-shape, by-asks, by-vectors, by-queries, by-room, by-none}
 use Rattle.sheet.proofs.refuse.writer_refusal.Statement.{statement}
 use Rattle.sheet.proofs.refuse.writer_refusal.Tie as tie
@@ -31,13 +30,13 @@ start₄ c = start₃ (c .before .before)
 
 -- what those tests tell
 shape-ok : (c : tie.Else1) → shapeOf (held (start₁ c)) ≡ 0
-unfolding shapeRefusal
+unfolding shapeOf
 shape-ok c = sym (c .before .shape-refusal .ensures) ∙ c .if1 .left
 
-limits : (c : tie.Else1) → ShapedOf (held (start₁ c))
-limits c = shaped-of (held (start₁ c)) (shape-ok c)
+limits : (c : tie.Else1) → Shaped (held (start₁ c))
+limits c = shaped (held (start₁ c)) (shape-ok c)
 
-asks-ok : (c : tie.Else2) → asksRefusal (start₂ c .args .asks) (start₂ c .args .numbers .now) ≡ 0
+asks-ok : (c : tie.Else2) → asksOf (held (start₂ c)) ≡ 0
 asks-ok c = sym (c .before .asks-refusal .ensures) ∙ c .if2 .left
 
 vectors-fit : (c : tie.Else3) → allFit (start₃ c .args .c) (start₃ c .args .vectors .now) ≡ true
@@ -50,7 +49,7 @@ shape-refusal-requires : tie.Need-shape-refusal-requires
 shape-refusal-requires c κs = search needs
 
 returns : tie.Need-returns
-unfolding shapeRefusal
+unfolding shapeOf
 returns c =
     let s = c .before .before .before in
     by-shape (held s) (s .args .output) (c .before .shape-refusal .ensures) (c .if1 .taken)
