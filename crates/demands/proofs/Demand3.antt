@@ -38,7 +38,7 @@ narrow-and-wide a wide le {c = c} {c₂ = c₂} h h₂ =
     let g = gave-search h in
     let g₂ = gave-search h₂ in
     let D = farness a in
-    let w = wider (a .n) (keyed D) (keyed-ordered D (a .n) (g .ok .few-points)) (edgesOf a) (eqb (a .start)) (a .k) (a .width) wide le in
+    let w = wider (a .n) (keyed D) (keyed-ordered D (a .n) (g .few-points)) (edgesOf a) (eqb (a .start)) (a .k) (a .width) wide le in
     record {
       trail-begins = (w .rest, trail-begins g₂ ∙ w .trail ∙ ap (λ (t : List ℕ). t ++ w .rest) (sym (trail-begins g)));
       at-least-as-many = omega (arith, w .more, g .found, g₂ .found);
@@ -64,9 +64,9 @@ exactly-the-nearest a own wide h =
     let δ = apart (a .d) (a .vectors) in
     let symm = apart-symmetric (a .d) (a .vectors) in
     let closing : Closing δ (a .n) (edgesOf a) = rw own (own-closing δ (a .n) symm (a .threshold)) in
-    let ordered = keyed-ordered D (a .n) (g .ok .few-points) in
+    let ordered = keyed-ordered D (a .n) (g .few-points) in
     let seen = eq-eqb (a .start) (a .start) refl in
-    let x = exact (a .n) (keyed D) ordered (edgesOf a) (eqb (a .start)) (a .k) δ symm (a .width) wide (a .start) (g .ok .start-in) seen closing in
+    let x = exact (a .n) (keyed D) ordered (edgesOf a) (eqb (a .start)) (a .k) δ symm (a .width) wide (a .start) (g .start-in) seen closing in
     let t = ids-begin g in
     record {
       many = g .found ∙ x .nearest .many ∙ ap (min (a .k)) (count-all (a .n));

@@ -1,9 +1,8 @@
 -- What an answer that is no refusal tells: its values are the rules', and so are the beginnings of the lent buffers. The demands start from here. Assumes nothing.
-use Prim.Native.Nat.{ℕ, zero, suc, _<_}
-use native.Mathlib.Nat.{not-suc-le-zero}
+use Prim.Native.Nat.{ℕ, _≤_, _<_}
 use native.Mathlib.Omega.{arith}
-use mathlib.Core.Path.{_≡_, refl, sym, ap, _∙_}
-use mathlib.Core.List.{List, [], _∷_, map}
+use mathlib.Core.Path.{_≡_, sym, ap, _∙_}
+use mathlib.Core.List.{List}
 use lib.IntN.{ℤ}
 use lib.ListN.{length, getD, take, drop, length-map, List·getD-append}
 use lib.Seq.{take-at}
@@ -14,12 +13,12 @@ use Rattle.rules.specs.Sheet.{Contents, sheet}
 use Rattle.rules.specs.Refusals.{walkRefusal}
 use Rattle.rules.specs.Entries as rules
 use Rattle.rules.specs.Entries.{Ask, farness, orderOf, searched, nearIds, nearDistances, countsOf, askedRefusal, refusalOf, searchAnswer, idsAfter, distancesAfter, trailAfter, endOf, walkAnswer, writeRefused, writeAnswer, outputAfter}
+use Rattle.laws.proofs.Line.{getD-map}
 use Rattle.laws.proofs.Refusals.{after-new, outcome-none, outcome-value}
-use Rattle.laws.proofs.RefusalOrder.{StartOk}
 use Rattle.search.specs.declared.Counts.{Counts}
 use Rattle.search.specs.declared.Searched.the-variants.{Done}
-use Rattle.search.proofs.Asked.{search-ok}
-use Rattle.search.proofs.Finish.{small-ids}
+use Rattle.search.proofs.Finish.{search-ok}
+use Rattle.search.proofs.OffLine.{small-ids}
 use Rattle.walk.specs.declared.End.{End}
 use Rattle.walk.specs.declared.Walked.the-variants as walked
 use Rattle.walk.specs.Answers.{endIn}
@@ -37,16 +36,12 @@ over-at : (l old new : List ℕ) (j : ℕ) → j < length l → new ≡ over l o
 unfolding over
 over-at l old new j h q = rw q (List·getD-append l (drop (length l) old) 0 j h)
 
-getD-map : (f : ℕ → ℕ) (l : List ℕ) (j : ℕ) → j < length l → getD (map f l) j 0 ≡ f (getD l j 0)
-getD-map f [] j h = absurd (not-suc-le-zero h)
-getD-map f (x ∷ l) zero h = refl
-getD-map f (x ∷ l) (suc j) h = getD-map f l j (omega arith)
-
 -- ---- a search
 
 -- the counts are those of the rules, and ids, distances and trail are put over the buffers
 pub record Gave (a : Ask) (c : Counts) (ids distances trail ids′ distances′ trail′ : List ℕ) : Type 0 where
-  pub ok : StartOk (a .n) (a .d) (length (a .vectors)) (length (a .table)) (length (a .query)) (a .start)
+  pub few-points : a .n ≤ 128
+  pub start-in : a .start < a .n
   pub found : c .found ≡ length (nearIds a)
   pub seen : c .seen ≡ count (a .n) (searched a .seen)
   pub walked : c .walked ≡ length (searched a .trail)
@@ -61,8 +56,10 @@ unfolding searchAnswer idsAfter distancesAfter trailAfter refusalOf askedRefusal
 gave-search {a} {c} {ids} {distances} {trail} h =
     let none = outcome-none (refusalOf a ids distances trail) _ _ (sym (h .answers)) in
     let is = sym (outcome-value (refusalOf a ids distances trail) _ _ (sym (h .answers))) in
+    let ok = search-ok _ _ _ _ _ _ _ _ _ _ _ _ none in
     record {
-      ok = search-ok _ _ _ _ _ _ _ _ _ _ _ _ none .starts;
+      few-points = ok .few-points;
+      start-in = ok .start-in;
       found = ap (λ (k : rules.Counts). k .found) is;
       seen = ap (λ (k : rules.Counts). k .seen) is;
       walked = ap (λ (k : rules.Counts). k .walked) is;
@@ -96,7 +93,7 @@ module _ {a : Ask} {c : Counts} {ids distances trail ids′ distances′ trail�
 
   pub id-small : (j : ℕ) → j < c .found → getD (nearIds a) j 0 < 128
   unfolding nearIds answer orderOf
-  id-small j l = small-ids (farness a) (a .n) (a .k) (g .ok .few-points) (searched a .seen) j (omega (arith, g .found))
+  id-small j l = small-ids (farness a) (a .n) (a .k) (g .few-points) (searched a .seen) j (omega (arith, g .found))
 
 -- ---- a walk and a writer
 

@@ -22,13 +22,13 @@ use Rattle.rules.specs.Entries.{Ask, farness, orderOf, edgesOf, searched, nearI
 use Rattle.rules.specs.Lines.{part, parts, pairs, setLine, foundLine, askRefusedLine, nearLine, trailLine, refusedLine}
 use Rattle.rules.specs.Program.{askOf, linesOf, asksLines, printed}
 use Rattle.laws.proofs.Tests.{and-l, and-r, count-le}
-use Rattle.laws.proofs.Bits.{length-values, values-fit, fit-take, fit-drop}
+use Rattle.laws.proofs.Values.{length-values, values-fit, fit-take, fit-drop}
 use Rattle.laws.proofs.Fields.{points-small, coords-small, width-small}
 use Rattle.laws.proofs.Distances.{gap-le}
 use Rattle.laws.proofs.Keyed.{keyed-ordered}
 use Rattle.laws.proofs.Nearest.{on-head, on-tail, firsts-nearest}
 use Rattle.laws.proofs.Search.{run-sound}
-use Rattle.search.proofs.Asked.{search-ok}
+use Rattle.search.proofs.Finish.{search-ok}
 use Rattle.lines.specs.declared.Placed.the-variants.{Short}
 use Rattle.lines.proofs.Digits.{length-below, length-part}
 use Rattle.lines.specs.Placing.{threeLines}
@@ -152,14 +152,14 @@ few a e =
     128
     128
     (same-refusal a ∙ e) in
-    let near = firsts-nearest (orderOf a) (a .n) (keyed-ordered (farness a) (a .n) (ok .starts .few-points)) (a .k) (searched a .seen) in
+    let near = firsts-nearest (orderOf a) (a .n) (keyed-ordered (farness a) (a .n) (ok .few-points)) (a .k) (searched a .seen) in
     let sound = run-sound (a .n) (orderOf a) (edgesOf a) (a .width) (a .n) (eqb (a .start)) in
     record {
       near-few = omega (arith, near .many, ok .ids-room);
-      near-small = λ y o. omega (arith, near .each y o .0, ok .starts .few-points);
-      seen-few = omega (arith, count-le (a .n) (searched a .seen), ok .starts .few-points);
-      trail-few = omega (arith, sound .1, count-le (a .n) (on (searched a .trail)), ok .starts .few-points);
-      trail-small = λ y o. omega (arith, sound .0 y o .0, ok .starts .few-points);
+      near-small = λ y o. omega (arith, near .each y o .0, ok .few-points);
+      seen-few = omega (arith, count-le (a .n) (searched a .seen), ok .few-points);
+      trail-few = omega (arith, sound .1, count-le (a .n) (on (searched a .trail)), ok .few-points);
+      trail-small = λ y o. omega (arith, sound .0 y o .0, ok .few-points);
     }
 
 module _ (i : ℕ) (a : Ask) (h : i < 1000) (near : (y : ℕ) → farness a y < 10000000) where
