@@ -8,7 +8,7 @@ use lib.ListN.{length, length-append}
 use borrow.Author.Tests.{le-leb, lt-leb}
 use Rattle.lines.specs.declared.Placed.{Placed}
 use Rattle.lines.specs.declared.Placed.the-variants.{Short, End}
-use Rattle.lines.specs.Placing.{ending, placedAnswer, placedAfter, Put}
+use Rattle.lines.specs.Placing.{ending, put, placedAnswer, placedAfter, Put}
 use Rattle.laws.proofs.Tests.{le-or-lt}
 use Rattle.lines.proofs.Runs.{Begins}
 
@@ -77,11 +77,19 @@ ahead-end {limit = limit} {end = end} a x q e = e ∙ ap (λ (l : List ℕ). end
 
 -- ---- bytes that are placed
 
+pub after-in : (at : ℕ) (l old : List ℕ) → at + length l ≤ length old → placedAfter at l old ≡ put at l old
+unfolding placedAfter
+after-in at l old h = rw (placedAfter, le-leb (at + length l) (length old) h)
+
+pub after-past : (at : ℕ) (l old : List ℕ) → length old < at + length l → placedAfter at l old ≡ old
+unfolding placedAfter
+after-past at l old h = rw (placedAfter, lt-leb (at + length l) (length old) h)
+
 pub placed-end : {at end : ℕ} {l old new : List ℕ} → Put at l old new end → (End end ≡ placedAnswer at l old) × (new ≡ placedAfter at l old)
-unfolding placedAnswer placedAfter
+unfolding placedAnswer
 placed-end {at} {end} {l} {old} p =
-    (ap End (p .ends) ∙ sym (ends-in at (length l) (length old) (p .fits)), p .is ∙ sym (rw (placedAfter, le-leb (at + length l) (length old) (p .fits))))
+    (ap End (p .ends) ∙ sym (ends-in at (length l) (length old) (p .fits)), p .is ∙ sym (after-in at l old (p .fits)))
 
 pub placed-short : (at : ℕ) (l old : List ℕ) → Short ≡ ending at (length l) (length old) → (Short ≡ placedAnswer at l old) × (old ≡ placedAfter at l old)
-unfolding placedAnswer placedAfter
-placed-short at l old e = (e, sym (rw (placedAfter, lt-leb (at + length l) (length old) (past at (length l) (length old) e))))
+unfolding placedAnswer
+placed-short at l old e = (e, sym (after-past at l old (past at (length l) (length old) e)))

@@ -48,23 +48,23 @@ pub(crate) fn found_end(
     )
 }
 
-// The word and the newline have five bytes; where the numbers end does not depend on which are counted first.
+// The word and the newline are counted together, before the numbers: only the sum decides where the line ends.
 pub(crate) fn near_end(ids: &[u16], distances: &[u32], at: usize, limit: usize) -> Placed
     ensures { λ r. ⌜ r ≡ ending at (length (nearLine (now (ids .entry)) (now (distances .entry)))) limit ⌝ }
 {
-    let Placed::End(fixed) = advance(at, 5, limit) else {
+    let Placed::End(pairs_at) = advance(at, 5, limit) else {
         return Placed::Short;
     };
-    pairs_end(ids, distances, fixed, limit)
+    pairs_end(ids, distances, pairs_at, limit)
 }
 
 pub(crate) fn trail_end(ids: &[u16], at: usize, limit: usize) -> Placed
     ensures { λ r. ⌜ r ≡ ending at (length (trailLine (now (ids .entry)))) limit ⌝ }
 {
-    let Placed::End(fixed) = advance(at, 6, limit) else {
+    let Placed::End(ids_at) = advance(at, 6, limit) else {
         return Placed::Short;
     };
-    parts_end(ids, fixed, limit)
+    parts_end(ids, ids_at, limit)
 }
 
 pub(crate) fn three_end(
@@ -80,11 +80,11 @@ pub(crate) fn three_end(
 ) -> Placed
     ensures { λ r. ⌜ r ≡ ending at (length (threeLines ask found seen walked (now (ids .entry)) (now (distances .entry)) (now (trail .entry)))) limit ⌝ }
 {
-    let Placed::End(near) = found_end(ask, found, seen, walked, at, limit) else {
+    let Placed::End(near_at) = found_end(ask, found, seen, walked, at, limit) else {
         return Placed::Short;
     };
-    let Placed::End(path) = near_end(ids, distances, near, limit) else {
+    let Placed::End(trail_at) = near_end(ids, distances, near_at, limit) else {
         return Placed::Short;
     };
-    trail_end(trail, path, limit)
+    trail_end(trail, trail_at, limit)
 }

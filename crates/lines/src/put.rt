@@ -69,8 +69,8 @@ pub(crate) fn put_named(word: &[u8], x: usize, output: &mut [u8], at: usize) -> 
     requires { ⌜ at + length (now word ++ part x) ≤ length (now output) ⌝ }
     ensures { λ r. ⌜ Put at (now (word .entry) ++ part x) (now (output .entry)) (now (output .exit)) r ⌝ }
 {
-    let named = put_word(word, output, at);
-    put_part(x, output, named)
+    let x_at = put_word(word, output, at);
+    put_part(x, output, x_at)
 }
 
 pub(crate) fn put_parts(ids: &[u16], output: &mut [u8], at: usize) -> usize
@@ -90,8 +90,8 @@ fn put_pair(id: u16, distance: u32, output: &mut [u8], at: usize) -> usize
     requires { ⌜ at + length (part id ++ part distance) ≤ length (now output) ⌝ }
     ensures { λ r. ⌜ Put at (part id ++ part distance) (now (output .entry)) (now (output .exit)) r ⌝ }
 {
-    let middle = put_part(wide(id), output, at);
-    put_part(wider(distance), output, middle)
+    let distance_at = put_part(wide(id), output, at);
+    put_part(wider(distance), output, distance_at)
 }
 
 pub(crate) fn put_pairs(ids: &[u16], distances: &[u32], output: &mut [u8], at: usize) -> usize

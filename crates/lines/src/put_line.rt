@@ -14,9 +14,9 @@ pub(crate) fn put_set(n: usize, d: usize, asks: usize, output: &mut [u8], at: us
     requires { ⌜ at + length (setLine n d asks) ≤ length (now output) ⌝ }
     ensures { λ r. ⌜ Put at (setLine n d asks) (now (output .entry)) (now (output .exit)) r ⌝ }
 {
-    let a = put_named(b"set", n, output, at);
-    let b = put_part(d, output, a);
-    let end = put_part(asks, output, b);
+    let d_at = put_named(b"set", n, output, at);
+    let asks_at = put_part(d, output, d_at);
+    let end = put_part(asks, output, asks_at);
     put_end(output, end)
 }
 
@@ -32,8 +32,8 @@ pub(crate) fn put_ask_refused(ask: usize, refusal: usize, output: &mut [u8], at:
     requires { ⌜ at + length (askRefusedLine ask refusal) ≤ length (now output) ⌝ }
     ensures { λ r. ⌜ Put at (askRefusedLine ask refusal) (now (output .entry)) (now (output .exit)) r ⌝ }
 {
-    let a = put_named(b"ask", ask, output, at);
-    let end = put_named(b" refused", refusal, output, a);
+    let refused_at = put_named(b"ask", ask, output, at);
+    let end = put_named(b" refused", refusal, output, refused_at);
     put_end(output, end)
 }
 
@@ -48,10 +48,10 @@ pub(crate) fn put_found(
     requires { ⌜ at + length (foundLine ask found seen walked) ≤ length (now output) ⌝ }
     ensures { λ r. ⌜ Put at (foundLine ask found seen walked) (now (output .entry)) (now (output .exit)) r ⌝ }
 {
-    let a = put_named(b"ask", ask, output, at);
-    let b = put_named(b" found", found, output, a);
-    let c = put_named(b" seen", seen, output, b);
-    let end = put_named(b" walked", walked, output, c);
+    let found_at = put_named(b"ask", ask, output, at);
+    let seen_at = put_named(b" found", found, output, found_at);
+    let walked_at = put_named(b" seen", seen, output, seen_at);
+    let end = put_named(b" walked", walked, output, walked_at);
     put_end(output, end)
 }
 
@@ -59,8 +59,8 @@ pub(crate) fn put_near(ids: &[u16], distances: &[u32], output: &mut [u8], at: us
     requires { ⌜ at + length (nearLine (now ids) (now distances)) ≤ length (now output) ⌝ }
     ensures { λ r. ⌜ Put at (nearLine (now (ids .entry)) (now (distances .entry))) (now (output .entry)) (now (output .exit)) r ⌝ }
 {
-    let a = put_word(b"near", output, at);
-    let end = put_pairs(ids, distances, output, a);
+    let pairs_at = put_word(b"near", output, at);
+    let end = put_pairs(ids, distances, output, pairs_at);
     put_end(output, end)
 }
 
@@ -68,8 +68,8 @@ pub(crate) fn put_trail(ids: &[u16], output: &mut [u8], at: usize) -> usize
     requires { ⌜ at + length (trailLine (now ids)) ≤ length (now output) ⌝ }
     ensures { λ r. ⌜ Put at (trailLine (now (ids .entry))) (now (output .entry)) (now (output .exit)) r ⌝ }
 {
-    let a = put_word(b"trail", output, at);
-    let end = put_parts(ids, output, a);
+    let ids_at = put_word(b"trail", output, at);
+    let end = put_parts(ids, output, ids_at);
     put_end(output, end)
 }
 
@@ -87,7 +87,7 @@ pub(crate) fn put_three(
     requires { ⌜ at + length (threeLines ask found seen walked (now ids) (now distances) (now trail)) ≤ length (now output) ⌝ }
     ensures { λ r. ⌜ Put at (threeLines ask found seen walked (now (ids .entry)) (now (distances .entry)) (now (trail .entry))) (now (output .entry)) (now (output .exit)) r ⌝ }
 {
-    let near = put_found(ask, found, seen, walked, output, at);
-    let path = put_near(ids, distances, output, near);
-    put_trail(trail, output, path)
+    let near_at = put_found(ask, found, seen, walked, output, at);
+    let trail_at = put_near(ids, distances, output, near_at);
+    put_trail(trail, output, trail_at)
 }

@@ -6,13 +6,12 @@ use mathlib.Core.Logic.{⊎-elim}
 use mathlib.Core.List.{List, [], _++_}
 use lib.ListN.{length, take, drop, length-append}
 use lib.Seq.{take-at}
-use borrow.Author.Tests.{le-leb, lt-leb}
 use Rattle.laws.proofs.Tests.{le-or-lt}
 use Rattle.lines.specs.declared.Placed.{Placed}
 use Rattle.lines.specs.declared.Placed.the-variants.{Short, End}
 use Rattle.lines.specs.Placing.{ending, put, placedAnswer, placedAfter}
 use Rattle.lines.proofs.Puts.{length-put, put-none, put-append}
-use Rattle.lines.proofs.Ends.{ends-in, ended, past, ends-then, short-then}
+use Rattle.lines.proofs.Ends.{ends-in, ended, past, ends-then, short-then, after-in, after-past}
 use Rattle.report.specs.Pages.{Paged}
 
 -- bytes by another name
@@ -20,14 +19,6 @@ pub placed-as :
     (at : ℕ) (l m old : List ℕ) {new : List ℕ} {r : Placed} → l ≡ m → (r ≡ placedAnswer at l old) × (new ≡ placedAfter at l old) →
     (r ≡ placedAnswer at m old) × (new ≡ placedAfter at m old)
 placed-as at l m old e h = (h .0 ∙ ap (λ (x : List ℕ). placedAnswer at x old) e, h .1 ∙ ap (λ (x : List ℕ). placedAfter at x old) e)
-
-after-in : (at : ℕ) (l old : List ℕ) → at + length l ≤ length old → placedAfter at l old ≡ put at l old
-unfolding placedAfter
-after-in at l old h = rw (placedAfter, le-leb (at + length l) (length old) h)
-
-after-past : (at : ℕ) (l old : List ℕ) → length old < at + length l → placedAfter at l old ≡ old
-unfolding placedAfter
-after-past at l old h = rw (placedAfter, lt-leb (at + length l) (length old) h)
 
 after-size : (at : ℕ) (l old : List ℕ) → length (placedAfter at l old) ≡ length old
 after-size at l old =

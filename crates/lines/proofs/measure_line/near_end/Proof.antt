@@ -13,8 +13,8 @@ use Rattle.lines.proofs.measure.pairs_end.Reads as pairs-end-reads
 advance-requires : tie.Need-advance-requires
 advance-requires c κs = search needs
 
-enum-known-fixed : tie.Need-enum-known-fixed
-enum-known-fixed c = search needs
+enum-known-pairs-at : tie.Need-enum-known-pairs-at
+enum-known-pairs-at c = search needs
 
 enum-told : tie.Need-enum-told
 enum-told c = search needs
@@ -27,10 +27,10 @@ pairs-end-requires c κs = search needs
 
 returns-2 : tie.Need-returns-2
 returns-2 c =
-    let fixed = c .before .before in
-    near-measured _ _ _ _ (sym (fixed .fixed .given .1) ∙ fixed .before .before .advance .ensures) (c .pairs-end .ensures)
+    let word = c .before .before in
+    near-measured _ _ _ _ (sym (word .pairs-at .given .1) ∙ word .before .before .advance .ensures) (c .pairs-end .ensures)
 
 pub near-end-spec : {M : Type 1} → statement M
 near-end-spec =
     tie.close
-    (tie.spec advance-requires enum-known-fixed enum-told returns pairs-end-requires returns-2)
+    (tie.spec advance-requires enum-known-pairs-at enum-told returns pairs-end-requires returns-2)

@@ -13,8 +13,8 @@ use Rattle.lines.proofs.measure.parts_end.Reads as parts-end-reads
 advance-requires : tie.Need-advance-requires
 advance-requires c κs = search needs
 
-enum-known-fixed : tie.Need-enum-known-fixed
-enum-known-fixed c = search needs
+enum-known-ids-at : tie.Need-enum-known-ids-at
+enum-known-ids-at c = search needs
 
 enum-told : tie.Need-enum-told
 enum-told c = search needs
@@ -27,10 +27,10 @@ parts-end-requires c κs = search needs
 
 returns-2 : tie.Need-returns-2
 returns-2 c =
-    let fixed = c .before .before in
-    trail-measured _ _ _ (sym (fixed .fixed .given .1) ∙ fixed .before .before .advance .ensures) (c .parts-end .ensures)
+    let word = c .before .before in
+    trail-measured _ _ _ (sym (word .ids-at .given .1) ∙ word .before .before .advance .ensures) (c .parts-end .ensures)
 
 pub trail-end-spec : {M : Type 1} → statement M
 trail-end-spec =
     tie.close
-    (tie.spec advance-requires enum-known-fixed enum-told returns parts-end-requires returns-2)
+    (tie.spec advance-requires enum-known-ids-at enum-told returns parts-end-requires returns-2)
