@@ -2,6 +2,7 @@
 -- Assumes nothing.
 use Prim.Native.Nat.{ℕ, suc, _*_, _≤_, _<_}
 use mathlib.Core.Path.{_≡_, refl, sym, _∙_}
+use mathlib.Core.Logic.{_≢_}
 use mathlib.Core.Bool.{Bool, true, false, cond}
 use mathlib.Core.List.{[], _∷_}
 use lib.Dec.{leb}
@@ -9,7 +10,18 @@ use borrow.Author.Tests.{leb-false, eq-eqb, lt-leb}
 use Rattle.rules.specs.Outcome.{firstOf, orElse}
 use Rattle.rules.specs.Refusals.{outside, differ, setRefusal, pointRefusal, buildRefusal, startRefusal, searchRefusal, walkRefusal}
 use Rattle.rules.specs.Refusals.{refuse4, refuse5, refuse6, refuse7, refuse8, refuse9, refuse10}
-use Rattle.laws.proofs.Refusals.{else-none, else-both, skipped, alike, set-ok}
+use Rattle.laws.proofs.Refusals.{else-none, else-some, else-both, skipped, alike, set-ok}
+
+-- ---- an entry that asks for a shared refusal first
+
+-- where that is not 0 it is the answer, and where it is 0 the answer is what comes next
+pub stops : {r s o : ℕ} (x : ℕ) → o ≡ orElse s x → r ≡ s → r ≢ 0 → r ≡ o
+stops x order e d = e ∙ sym (order ∙ else-some (λ z. d (e ∙ z)) x)
+
+pub passes : {r s o x : ℕ} → o ≡ orElse s x → r ≡ s → r ≡ 0 → o ≡ x
+passes {x = x} order e z = order ∙ else-none (sym e ∙ z) x
+
+-- ---- the orders
 
 -- a number with its test before both
 sooner : (t : Bool) (k r x : ℕ) {s : ℕ} → s ≡ orElse r x → cond t (suc k) s ≡ orElse (cond t (suc k) r) x

@@ -3,8 +3,8 @@ use mathlib.Core.Path.{sym, _∙_}
 use native.Mathlib.Omega.{arith}
 use borrow.Author.Needs.{needs}
 use borrow.Author.Tests.{eq-eqb, ne-eqb}
-use Rattle.laws.proofs.Refusals.{set-ok, else-none, else-some, small-square}
-use Rattle.laws.proofs.RefusalOrder.{build-order}
+use Rattle.laws.proofs.Refusals.{set-ok, small-square}
+use Rattle.laws.proofs.RefusalOrder.{stops, passes, build-order}
 use Rattle.table.proofs.build_refusal.Statement.{statement}
 use Rattle.table.proofs.build_refusal.Tie as tie
 
@@ -12,9 +12,7 @@ set-refusal-requires : tie.Need-set-refusal-requires
 set-refusal-requires c κs = search needs
 
 returns : tie.Need-returns
-returns c =
-    let r = c .before .set-refusal in
-    r .ensures ∙ sym (build-order _ _ _ _ ∙ else-some (λ e. c .if1 .taken (r .ensures ∙ e)) _)
+returns c = stops _ (build-order _ _ _ _) (c .before .set-refusal .ensures) (c .if1 .taken)
 
 mul-if2 : tie.Need-mul-if2
 mul-if2 c =
@@ -23,13 +21,13 @@ mul-if2 c =
 
 returns-2 : tie.Need-returns-2
 returns-2 c =
-    let r = c .before .before .set-refusal in
-    sym (build-order _ _ _ _ ∙ else-none (sym (r .ensures) ∙ c .before .if1 .left) _ ∙ simp (ne-eqb _ _ (c .if2 .taken)))
+    let set = c .before in
+    sym (passes (build-order _ _ _ _) (set .before .set-refusal .ensures) (set .if1 .left) ∙ simp (ne-eqb _ _ (c .if2 .taken)))
 
 returns-3 : tie.Need-returns-3
 returns-3 c =
-    let r = c .before .before .set-refusal in
-    sym (build-order _ _ _ _ ∙ else-none (sym (r .ensures) ∙ c .before .if1 .left) _ ∙ simp (eq-eqb _ _ (c .if2 .left)))
+    let set = c .before in
+    sym (passes (build-order _ _ _ _) (set .before .set-refusal .ensures) (set .if1 .left) ∙ simp (eq-eqb _ _ (c .if2 .left)))
 
 pub build-refusal-spec : {M : Type 1} → statement M
 build-refusal-spec = tie.close (tie.spec set-refusal-requires returns mul-if2 returns-2 returns-3)

@@ -2,8 +2,7 @@
 use mathlib.Core.Path.{sym, _∙_}
 use borrow.Author.Needs.{needs}
 use borrow.Author.Tests.{lt-ltb, le-ltb}
-use Rattle.laws.proofs.Refusals.{else-none, else-some}
-use Rattle.laws.proofs.RefusalOrder.{walk-order}
+use Rattle.laws.proofs.RefusalOrder.{stops, passes, walk-order}
 use Rattle.walk.proofs.walk_refusal.Statement.{statement}
 use Rattle.walk.proofs.walk_refusal.Tie as tie
 
@@ -11,19 +10,17 @@ start-refusal-requires : tie.Need-start-refusal-requires
 start-refusal-requires c κs = search needs
 
 returns : tie.Need-returns
-returns c =
-    let r = c .before .start-refusal in
-    r .ensures ∙ sym (walk-order _ _ _ _ _ _ _ ∙ else-some (λ e. c .if1 .taken (r .ensures ∙ e)) _)
+returns c = stops _ (walk-order _ _ _ _ _ _ _) (c .before .start-refusal .ensures) (c .if1 .taken)
 
 returns-2 : tie.Need-returns-2
 returns-2 c =
-    let r = c .before .before .start-refusal in
-    sym (walk-order _ _ _ _ _ _ _ ∙ else-none (sym (r .ensures) ∙ c .before .if1 .left) _ ∙ simp (lt-ltb _ _ (c .if2 .taken)))
+    let start = c .before in
+    sym (passes (walk-order _ _ _ _ _ _ _) (start .before .start-refusal .ensures) (start .if1 .left) ∙ simp (lt-ltb _ _ (c .if2 .taken)))
 
 returns-3 : tie.Need-returns-3
 returns-3 c =
-    let r = c .before .before .start-refusal in
-    sym (walk-order _ _ _ _ _ _ _ ∙ else-none (sym (r .ensures) ∙ c .before .if1 .left) _ ∙ simp (le-ltb _ _ (c .if2 .left)))
+    let start = c .before in
+    sym (passes (walk-order _ _ _ _ _ _ _) (start .before .start-refusal .ensures) (start .if1 .left) ∙ simp (le-ltb _ _ (c .if2 .left)))
 
 pub walk-refusal-spec : {M : Type 1} → statement M
 walk-refusal-spec = tie.close (tie.spec start-refusal-requires returns returns-2 returns-3)
