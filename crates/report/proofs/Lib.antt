@@ -1,4 +1,6 @@
 pub mod Asked
 pub mod Pages
 pub mod Sheets
+pub mod Printed
 pub mod Bounds
+pub mod Room

@@ -2,7 +2,7 @@
 use mathlib.Core.Path.{sym}
 use lib.Seq.{length-take-le}
 use Rattle.report.proofs.Pages.{placed-as, paged-told, paged-front}
-use Rattle.report.proofs.Bounds.{never-short}
+use Rattle.report.proofs.Room.{never-short}
 use borrow.Author.Needs.{needs}
 use Rattle.report.proofs.print.Statement.{statement}
 use Rattle.report.proofs.print.Tie as tie

@@ -4,7 +4,7 @@ use mathlib.Core.Path.{sym, ap, _∙_}
 use Rattle.laws.proofs.Refusals.{small-product, small-square}
 use Rattle.sheet.specs.Answers.{headTold}
 use Rattle.report.proofs.Pages.{paged}
-use Rattle.report.proofs.Sheets.{Headed, sheet-refused, sheet-headed}
+use Rattle.report.proofs.Printed.{Headed, sheet-refused, sheet-headed}
 use native.Mathlib.Omega.{arith}
 use borrow.Author.Needs.{needs}
 use Rattle.report.proofs.whole.fill.Statement.{statement}

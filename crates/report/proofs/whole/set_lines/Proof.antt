@@ -1,7 +1,8 @@
 -- `report::whole::set_lines` meets its contract. Assumes nothing.
 use mathlib.Core.Path.{refl, sym, _∙_}
 use Rattle.report.proofs.Pages.{paged, paged-front}
-use Rattle.report.proofs.Sheets.{asks-few, set-read, table-built, whole-set, whole-short}
+use Rattle.report.proofs.Sheets.{asks-few, set-read, table-built}
+use Rattle.report.proofs.Printed.{whole-set, whole-short}
 use native.Mathlib.Omega.{arith}
 use borrow.Author.Needs.{needs}
 use Rattle.report.proofs.whole.set_lines.Statement.{statement}
