@@ -42,17 +42,13 @@ wide-requires-4 c κs = search needs
 returns : tie.Need-returns
 unfolding points coords width askCount
 returns c =
-    let s = c .before .before .before .before .before .before in
-    let field-from2 = c .before .before .before .before .before .field-from2 in
-    let wide2 = c .before .before .before .before .wide2 in
-    let field-from3 = c .before .before .before .field-from3 in
-    let wide3 = c .before .before .wide3 in
-    let field-from4 = c .before .field-from4 in
-    let p = c .before .before .before .before .before .before in
-    let e₁ = p .wide .ensures .0 ∙ p .before .field-from .ensures in
-    let e₂ = wide2 .ensures .0 ∙ field-from2 .ensures in
-    let e₃ = wide3 .ensures .0 ∙ field-from3 .ensures in
-    let e₄ = c .wide4 .ensures .0 ∙ field-from4 .ensures in
+    let c₃ = c .before .before in
+    let c₂ = c₃ .before .before in
+    let c₁ = c₂ .before .before in
+    let e₁ = c₁ .wide .ensures .0 ∙ c₁ .before .field-from .ensures in
+    let e₂ = c₂ .wide2 .ensures .0 ∙ c₂ .before .field-from2 .ensures in
+    let e₃ = c₃ .wide3 .ensures .0 ∙ c₃ .before .field-from3 .ensures in
+    let e₄ = c .wide4 .ensures .0 ∙ c .before .field-from4 .ensures in
     λ i. record { n = e₁ i + 1; d = e₂ i + 1; c = e₃ i + 1; asks = e₄ i }
 
 pub head-spec : {M : Type 1} → statement M
