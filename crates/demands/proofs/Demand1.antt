@@ -20,7 +20,7 @@ use Rattle.walk.specs.declared.Answer.the-variants as step
 use Rattle.walk.specs.declared.Walked.{Walked}
 use Rattle.walk.specs.declared.Walked.the-variants as walked
 use Rattle.walk.specs.Answers as walk
-use Rattle.walk.proofs.Fixed.{told-once, told-end-once}
+use Rattle.walk.proofs.Told.{step-told, walk-told}
 use Rattle.sheet.specs.declared.Written.{Written}
 use Rattle.sheet.specs.declared.Written.the-variants as written
 use Rattle.sheet.specs.declared.Headed.{Headed}
@@ -82,13 +82,13 @@ module _ {n d threshold : ℕ} {vectors query : List ℤ} {table : List ℕ} whe
       → Refuses step.Refused r (stepRefused n d vectors table query threshold w) (w′ ≡ w)
   unfolding stepAnswer recordAfter
   step-refuses h =
-      refuses walk.told step.Refused (λ x. refl) told-once _ _ _ (h .answers) (λ z. h .record-holds ∙ after-old z _ _)
+      refuses walk.told step.Refused (λ x. refl) step-told _ _ _ (h .answers) (λ z. h .record-holds ∙ after-old z _ _)
 
   pub walk-refuses : {start : ℕ} {r : Walked}
       → WalkCall n d vectors table query threshold start r
       → Refuses walked.Refused r (walkRefusal n d (length vectors) (length table) (length query) start threshold) Unit
   unfolding walkAnswer
-  walk-refuses h = refuses walk.toldEnd walked.Refused (λ x. refl) told-end-once _ _ _ (h .answers) (λ z. tt)
+  walk-refuses h = refuses walk.toldEnd walked.Refused (λ x. refl) walk-told _ _ _ (h .answers) (λ z. tt)
 
 -- ---- sheets
 

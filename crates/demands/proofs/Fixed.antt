@@ -13,7 +13,7 @@ use Rattle.walk.specs.declared.Answer.{Answer}
 use Rattle.walk.specs.declared.Walked.{Walked}
 use Rattle.walk.specs.declared.Walk.{Walk as Kept}
 use Rattle.walk.specs.Answers.{recordOf}
-use Rattle.walk.proofs.Fixed.{told-once, record-once, told-end-once}
+use Rattle.walk.proofs.Told.{step-told, record-told, walk-told}
 use Rattle.sheet.specs.declared.Written.{Written}
 use Rattle.sheet.specs.declared.Headed.{Headed}
 use Rattle.sheet.specs.declared.Asked.{Asked}
@@ -46,10 +46,10 @@ pub step-fixed : {n d threshold : ℕ} {vectors query : List ℤ} {table : List 
     → StepCall n d vectors table query threshold w s (recordOf u)
     → (r ≡ s) × (v ≡ u)
 step-fixed {v = v} {u = u} {r = r} {s = s} g h =
-    (told-once r s (one (g .answers) (h .answers)), record-once v u (one (g .record-holds) (h .record-holds)))
+    (step-told r s (one (g .answers) (h .answers)), record-told v u (one (g .record-holds) (h .record-holds)))
 
 pub walk-fixed : {n d threshold start : ℕ} {vectors query : List ℤ} {table : List ℕ} {r s : Walked} → WalkCall n d vectors table query threshold start r → WalkCall n d vectors table query threshold start s → r ≡ s
-walk-fixed {r = r} {s = s} g h = told-end-once r s (one (g .answers) (h .answers))
+walk-fixed {r = r} {s = s} g h = walk-told r s (one (g .answers) (h .answers))
 
 pub write-fixed : {k : Contents} {output o p : List ℕ} {r s : Written} → WriteCall k output r o → WriteCall k output s p → (r ≡ s) × (o ≡ p)
 write-fixed {r = r} {s = s} g h = (write-told r s (one (g .answers) (h .answers)), one (g .output-holds) (h .output-holds))

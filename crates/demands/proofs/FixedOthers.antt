@@ -6,7 +6,7 @@ use mathlib.Core.List.{List}
 use lib.IntN.{ℤ}
 use Rattle.walk.specs.declared.Stepped.{Stepped}
 use Rattle.walk.specs.Answers.{at, recordIn}
-use Rattle.walk.proofs.Fixed.{stepped-once}
+use Rattle.walk.proofs.Told.{stepped-told}
 use Rattle.sheet.specs.declared.place.Place.{Place}
 use Rattle.lines.specs.declared.Placed.{Placed}
 use Rattle.demands.specs.Calls.{StepCall}
@@ -44,7 +44,7 @@ pub step-at-fixed : {n d threshold current moves : ℕ} {vectors query : List �
     → StepCall n d vectors table query threshold (at current moves) (r .answer) (recordIn r)
     → StepCall n d vectors table query threshold (at current moves) (s .answer) (recordIn s)
     → r ≡ s
-step-at-fixed {r = r} {s = s} g h = stepped-once r s (one (g .answers) (h .answers)) (one (g .record-holds) (h .record-holds))
+step-at-fixed {r = r} {s = s} g h = stepped-told r s (one (g .answers) (h .answers)) (one (g .record-holds) (h .record-holds))
 
 -- ---- `sheet::place`: the sheet and the next bit are the whole place
 

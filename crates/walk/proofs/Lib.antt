@@ -3,5 +3,5 @@ pub mod Least
 pub mod Taken
 pub mod Steps
 pub mod Way
-pub mod Fixed
+pub mod Told
 pub mod Whole
