@@ -23,13 +23,20 @@ pub extern "C" fn magpiehinge_search(
     seen: &mut usize,
     walked: &mut usize,
 ) -> u8
-    ensures refusal { λ r. ⌜ r ≡ numberOf (searchAnswer (ask n d (now (vectors .entry)) (now (table .entry)) (now (query .entry)) start threshold width k) (now (ids .entry)) (now (distances .entry)) (now (trail .entry))) ⌝ }
-    ensures ids { λ r. ⌜ now (ids .exit) ≡ idsAfter (ask n d (now (vectors .entry)) (now (table .entry)) (now (query .entry)) start threshold width k) (now (ids .entry)) (now (distances .entry)) (now (trail .entry)) ⌝ }
-    ensures distances { λ r. ⌜ now (distances .exit) ≡ distancesAfter (ask n d (now (vectors .entry)) (now (table .entry)) (now (query .entry)) start threshold width k) (now (ids .entry)) (now (distances .entry)) (now (trail .entry)) ⌝ }
-    ensures trail { λ r. ⌜ now (trail .exit) ≡ trailAfter (ask n d (now (vectors .entry)) (now (table .entry)) (now (query .entry)) start threshold width k) (now (ids .entry)) (now (distances .entry)) (now (trail .entry)) ⌝ }
-    ensures found { λ r. ⌜ now (found .exit) ≡ cellAfter (searchAnswer (ask n d (now (vectors .entry)) (now (table .entry)) (now (query .entry)) start threshold width k) (now (ids .entry)) (now (distances .entry)) (now (trail .entry))) (λ c. c .found) (now (found .entry)) ⌝ }
-    ensures seen { λ r. ⌜ now (seen .exit) ≡ cellAfter (searchAnswer (ask n d (now (vectors .entry)) (now (table .entry)) (now (query .entry)) start threshold width k) (now (ids .entry)) (now (distances .entry)) (now (trail .entry))) (λ c. c .seen) (now (seen .entry)) ⌝ }
-    ensures walked { λ r. ⌜ now (walked .exit) ≡ cellAfter (searchAnswer (ask n d (now (vectors .entry)) (now (table .entry)) (now (query .entry)) start threshold width k) (now (ids .entry)) (now (distances .entry)) (now (trail .entry))) (λ c. c .walked) (now (walked .entry)) ⌝ }
+    ensures refusal { λ r. ⌜ r
+        ≡ numberOf (searchAnswer (ask n d (now (vectors .entry)) (now (table .entry)) (now (query .entry)) start threshold width k) (now (ids .entry)) (now (distances .entry)) (now (trail .entry))) ⌝ }
+    ensures ids { λ r. ⌜ now (ids .exit)
+        ≡ idsAfter (ask n d (now (vectors .entry)) (now (table .entry)) (now (query .entry)) start threshold width k) (now (ids .entry)) (now (distances .entry)) (now (trail .entry)) ⌝ }
+    ensures distances { λ r. ⌜ now (distances .exit)
+        ≡ distancesAfter (ask n d (now (vectors .entry)) (now (table .entry)) (now (query .entry)) start threshold width k) (now (ids .entry)) (now (distances .entry)) (now (trail .entry)) ⌝ }
+    ensures trail { λ r. ⌜ now (trail .exit)
+        ≡ trailAfter (ask n d (now (vectors .entry)) (now (table .entry)) (now (query .entry)) start threshold width k) (now (ids .entry)) (now (distances .entry)) (now (trail .entry)) ⌝ }
+    ensures found { λ r. ⌜ now (found .exit)
+        ≡ cellAfter (searchAnswer (ask n d (now (vectors .entry)) (now (table .entry)) (now (query .entry)) start threshold width k) (now (ids .entry)) (now (distances .entry)) (now (trail .entry))) (λ c. c .found) (now (found .entry)) ⌝ }
+    ensures seen { λ r. ⌜ now (seen .exit)
+        ≡ cellAfter (searchAnswer (ask n d (now (vectors .entry)) (now (table .entry)) (now (query .entry)) start threshold width k) (now (ids .entry)) (now (distances .entry)) (now (trail .entry))) (λ c. c .seen) (now (seen .entry)) ⌝ }
+    ensures walked { λ r. ⌜ now (walked .exit)
+        ≡ cellAfter (searchAnswer (ask n d (now (vectors .entry)) (now (table .entry)) (now (query .entry)) start threshold width k) (now (ids .entry)) (now (distances .entry)) (now (trail .entry))) (λ c. c .walked) (now (walked .entry)) ⌝ }
 {
     let answer = search::search(
         n,

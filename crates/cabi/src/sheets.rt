@@ -22,9 +22,12 @@ pub extern "C" fn magpiehinge_write(
     output: &mut [u8],
     written: &mut usize,
 ) -> u8
-    ensures refusal { λ r. ⌜ r ≡ numberOf (writeAnswer (contents n d c asks (now (vectors .entry)) (now (numbers .entry)) (now (queries .entry))) (now (output .entry))) ⌝ }
-    ensures output { λ r. ⌜ now (output .exit) ≡ outputAfter (contents n d c asks (now (vectors .entry)) (now (numbers .entry)) (now (queries .entry))) (now (output .entry)) ⌝ }
-    ensures written { λ r. ⌜ now (written .exit) ≡ cellAfter (writeAnswer (contents n d c asks (now (vectors .entry)) (now (numbers .entry)) (now (queries .entry))) (now (output .entry))) (λ l. l) (now (written .entry)) ⌝ }
+    ensures refusal { λ r. ⌜ r
+        ≡ numberOf (writeAnswer (contents n d c asks (now (vectors .entry)) (now (numbers .entry)) (now (queries .entry))) (now (output .entry))) ⌝ }
+    ensures output { λ r. ⌜ now (output .exit)
+        ≡ outputAfter (contents n d c asks (now (vectors .entry)) (now (numbers .entry)) (now (queries .entry))) (now (output .entry)) ⌝ }
+    ensures written { λ r. ⌜ now (written .exit)
+        ≡ cellAfter (writeAnswer (contents n d c asks (now (vectors .entry)) (now (numbers .entry)) (now (queries .entry))) (now (output .entry))) (λ l. l) (now (written .entry)) ⌝ }
 {
     let answer = sheet::write(n, d, c, asks, vectors, numbers, queries, output);
     match answer {
@@ -85,10 +88,13 @@ pub extern "C" fn magpiehinge_ask(
 ) -> u8
     ensures refusal { λ r. ⌜ r ≡ numberOf (askAnswer (now (sheet .entry)) number (now (query .entry))) ⌝ }
     ensures query { λ r. ⌜ now (query .exit) ≡ queryAfter (now (sheet .entry)) number (now (query .entry)) ⌝ }
-    ensures start { λ r. ⌜ now (start .exit) ≡ cellAfter (askAnswer (now (sheet .entry)) number (now (query .entry))) (λ c. c .start) (now (start .entry)) ⌝ }
-    ensures width { λ r. ⌜ now (width .exit) ≡ cellAfter (askAnswer (now (sheet .entry)) number (now (query .entry))) (λ c. c .width) (now (width .entry)) ⌝ }
+    ensures start { λ r. ⌜ now (start .exit)
+        ≡ cellAfter (askAnswer (now (sheet .entry)) number (now (query .entry))) (λ c. c .start) (now (start .entry)) ⌝ }
+    ensures width { λ r. ⌜ now (width .exit)
+        ≡ cellAfter (askAnswer (now (sheet .entry)) number (now (query .entry))) (λ c. c .width) (now (width .entry)) ⌝ }
     ensures k { λ r. ⌜ now (k .exit) ≡ cellAfter (askAnswer (now (sheet .entry)) number (now (query .entry))) (λ c. c .k) (now (k .entry)) ⌝ }
-    ensures threshold { λ r. ⌜ now (threshold .exit) ≡ cellAfter (askAnswer (now (sheet .entry)) number (now (query .entry))) (λ c. c .threshold) (now (threshold .entry)) ⌝ }
+    ensures threshold { λ r. ⌜ now (threshold .exit)
+        ≡ cellAfter (askAnswer (now (sheet .entry)) number (now (query .entry))) (λ c. c .threshold) (now (threshold .entry)) ⌝ }
 {
     let answer = sheet::ask(sheet, number, query);
     match answer {

@@ -19,10 +19,14 @@ pub extern "C" fn magpiehinge_step(
     moves: &mut u16,
     moved: &mut u8,
 ) -> u8
-    ensures refusal { λ r. ⌜ r ≡ numberOf (stepAnswer n d (now (vectors .entry)) (now (table .entry)) (now (query .entry)) threshold (at (now (current .entry)) (now (moves .entry)))) ⌝ }
-    ensures current { λ r. ⌜ now (current .exit) ≡ recordAfter n d (now (vectors .entry)) (now (table .entry)) (now (query .entry)) threshold (at (now (current .entry)) (now (moves .entry))) .current ⌝ }
-    ensures moves { λ r. ⌜ now (moves .exit) ≡ recordAfter n d (now (vectors .entry)) (now (table .entry)) (now (query .entry)) threshold (at (now (current .entry)) (now (moves .entry))) .moves ⌝ }
-    ensures moved { λ r. ⌜ now (moved .exit) ≡ cellAfter (stepAnswer n d (now (vectors .entry)) (now (table .entry)) (now (query .entry)) threshold (at (now (current .entry)) (now (moves .entry)))) movedBit (now (moved .entry)) ⌝ }
+    ensures refusal { λ r. ⌜ r
+        ≡ numberOf (stepAnswer n d (now (vectors .entry)) (now (table .entry)) (now (query .entry)) threshold (at (now (current .entry)) (now (moves .entry)))) ⌝ }
+    ensures current { λ r. ⌜ now (current .exit)
+        ≡ recordAfter n d (now (vectors .entry)) (now (table .entry)) (now (query .entry)) threshold (at (now (current .entry)) (now (moves .entry))) .current ⌝ }
+    ensures moves { λ r. ⌜ now (moves .exit)
+        ≡ recordAfter n d (now (vectors .entry)) (now (table .entry)) (now (query .entry)) threshold (at (now (current .entry)) (now (moves .entry))) .moves ⌝ }
+    ensures moved { λ r. ⌜ now (moved .exit)
+        ≡ cellAfter (stepAnswer n d (now (vectors .entry)) (now (table .entry)) (now (query .entry)) threshold (at (now (current .entry)) (now (moves .entry)))) movedBit (now (moved .entry)) ⌝ }
 {
     let step = walk::step_at(n, d, vectors, table, query, threshold, *current, *moves);
     *current = step.current;
@@ -56,9 +60,12 @@ pub extern "C" fn magpiehinge_walk(
     moves: &mut u16,
 ) -> u8
     ensures refusal { λ r. ⌜ r ≡ numberOf (walkAnswer n d (now (vectors .entry)) (now (table .entry)) (now (query .entry)) threshold start) ⌝ }
-    ensures last { λ r. ⌜ now (last .exit) ≡ cellAfter (walkAnswer n d (now (vectors .entry)) (now (table .entry)) (now (query .entry)) threshold start) (λ c. c .last) (now (last .entry)) ⌝ }
-    ensures distance { λ r. ⌜ now (distance .exit) ≡ cellAfter (walkAnswer n d (now (vectors .entry)) (now (table .entry)) (now (query .entry)) threshold start) (λ c. c .distance) (now (distance .entry)) ⌝ }
-    ensures moves { λ r. ⌜ now (moves .exit) ≡ cellAfter (walkAnswer n d (now (vectors .entry)) (now (table .entry)) (now (query .entry)) threshold start) (λ c. c .moves) (now (moves .entry)) ⌝ }
+    ensures last { λ r. ⌜ now (last .exit)
+        ≡ cellAfter (walkAnswer n d (now (vectors .entry)) (now (table .entry)) (now (query .entry)) threshold start) (λ c. c .last) (now (last .entry)) ⌝ }
+    ensures distance { λ r. ⌜ now (distance .exit)
+        ≡ cellAfter (walkAnswer n d (now (vectors .entry)) (now (table .entry)) (now (query .entry)) threshold start) (λ c. c .distance) (now (distance .entry)) ⌝ }
+    ensures moves { λ r. ⌜ now (moves .exit)
+        ≡ cellAfter (walkAnswer n d (now (vectors .entry)) (now (table .entry)) (now (query .entry)) threshold start) (λ c. c .moves) (now (moves .entry)) ⌝ }
 {
     let answer = walk::whole_walk(n, d, vectors, table, query, start, threshold);
     match answer {

@@ -93,7 +93,9 @@ same-end e = cc
 
 module _ {n d threshold : ℕ} {vectors query : List ℤ} {table : List ℕ} where
   -- a step that moves goes where the rule says, and counts
-  pub step-moves : {w w′ : Walk} → StepCall n d vectors table query threshold w Moved w′ → (x : ℕ) × (goesTo n d vectors table query threshold (w .current) ≡ some x) × (w′ ≡ record { current = x; moves = suc (w .moves) })
+  pub step-moves : {w w′ : Walk}
+      → StepCall n d vectors table query threshold w Moved w′
+      → (x : ℕ) × (goesTo n d vectors table query threshold (w .current) ≡ some x) × (w′ ≡ record { current = x; moves = suc (w .moves) })
   unfolding stepAnswer recordAfter stepped stepFrom
   step-moves {w} {w′} h =
       let free = outcome-none _ _ _ (sym (h .answers)) in
@@ -104,7 +106,9 @@ module _ {n d threshold : ℕ} {vectors query : List ℤ} {table : List ℕ} whe
       go (some x) e q = (x, refl, q)
 
   -- a step at the end has nowhere to go, and the record stays
-  pub step-stays : {w w′ : Walk} → StepCall n d vectors table query threshold w AtEnd w′ → (goesTo n d vectors table query threshold (w .current) ≡ none) × (w′ ≡ w)
+  pub step-stays : {w w′ : Walk}
+      → StepCall n d vectors table query threshold w AtEnd w′
+      → (goesTo n d vectors table query threshold (w .current) ≡ none) × (w′ ≡ w)
   unfolding stepAnswer recordAfter stepped stepFrom
   step-stays {w} {w′} h =
       let free = outcome-none _ _ _ (sym (h .answers)) in
@@ -169,7 +173,9 @@ reads-an-ask h =
     (sym (outcome-value _ _ _ (sym (h .answers))), h .query-holds ∙ after-new (outcome-none _ _ _ (sym (h .answers))) _ _)
 
 -- reading a written sheet gives back its contents
-pub read-what-was-written : {k : Contents} {output output′ : List ℕ} {l : ℕ} → WriteCall k output (written.Length l) output′ → AsRead (take l output′) k
+pub read-what-was-written : {k : Contents} {output output′ : List ℕ} {l : ℕ}
+    → WriteCall k output (written.Length l) output′
+    → AsRead (take l output′) k
 read-what-was-written {k} {output} {output′} {l} h =
     subst (λ (ys : List ℕ). AsRead (take l ys) k) (sym (h .output-holds)) (read-written k output l (sym (h .answers)))
 

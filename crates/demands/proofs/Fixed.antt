@@ -33,10 +33,16 @@ point-refusal-fixed g h = one (g .answers) (h .answers)
 pub distance-fixed : {a b : List ℤ} {x y : ℕ} → DistanceCall a b x → DistanceCall a b y → x ≡ y
 distance-fixed g h = one (g .answers) (h .answers)
 
-pub build-fixed : {n d x y : ℕ} {vectors : List ℤ} {table t u : List ℕ} → BuildCall n d vectors table x t → BuildCall n d vectors table y u → (x ≡ y) × (t ≡ u)
+pub build-fixed : {n d x y : ℕ} {vectors : List ℤ} {table t u : List ℕ}
+    → BuildCall n d vectors table x t
+    → BuildCall n d vectors table y u
+    → (x ≡ y) × (t ≡ u)
 build-fixed g h = (one (g .answers) (h .answers), one (g .table-holds) (h .table-holds))
 
-pub search-fixed : {a : Ask} {ids distances trail i j d e t u : List ℕ} {r s : Searched} → SearchCall a ids distances trail r i d t → SearchCall a ids distances trail s j e u → (r ≡ s) × (i ≡ j) × (d ≡ e) × (t ≡ u)
+pub search-fixed : {a : Ask} {ids distances trail i j d e t u : List ℕ} {r s : Searched}
+    → SearchCall a ids distances trail r i d t
+    → SearchCall a ids distances trail s j e u
+    → (r ≡ s) × (i ≡ j) × (d ≡ e) × (t ≡ u)
 search-fixed {r = r} {s = s} g h =
     (search-told r s (one (g .answers) (h .answers)), one (g .ids-hold) (h .ids-hold), one (g .distances-hold) (h .distances-hold), one (g .trail-holds) (h .trail-holds))
 
@@ -48,7 +54,10 @@ pub step-fixed : {n d threshold : ℕ} {vectors query : List ℤ} {table : List 
 step-fixed {v = v} {u = u} {r = r} {s = s} g h =
     (step-told r s (one (g .answers) (h .answers)), record-told v u (one (g .record-holds) (h .record-holds)))
 
-pub walk-fixed : {n d threshold start : ℕ} {vectors query : List ℤ} {table : List ℕ} {r s : Walked} → WalkCall n d vectors table query threshold start r → WalkCall n d vectors table query threshold start s → r ≡ s
+pub walk-fixed : {n d threshold start : ℕ} {vectors query : List ℤ} {table : List ℕ} {r s : Walked}
+    → WalkCall n d vectors table query threshold start r
+    → WalkCall n d vectors table query threshold start s
+    → r ≡ s
 walk-fixed {r = r} {s = s} g h = walk-told r s (one (g .answers) (h .answers))
 
 pub write-fixed : {k : Contents} {output o p : List ℕ} {r s : Written} → WriteCall k output r o → WriteCall k output s p → (r ≡ s) × (o ≡ p)

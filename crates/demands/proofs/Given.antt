@@ -98,7 +98,8 @@ module _ {a : Ask} {c : Counts} {ids distances trail ids′ distances′ trail�
 -- ---- a walk and a writer
 
 module _ {n d threshold start : ℕ} {vectors query : List ℤ} {table : List ℕ} {e : End} where
-  pub walk-taken : WalkCall n d vectors table query threshold start (walked.Ended e) → walkRefusal n d (length vectors) (length table) (length query) start threshold ≡ 0
+  pub walk-taken : WalkCall n d vectors table query threshold start (walked.Ended e)
+      → walkRefusal n d (length vectors) (length table) (length query) start threshold ≡ 0
   unfolding walkAnswer
   walk-taken h = outcome-none _ _ _ (sym (h .answers))
 

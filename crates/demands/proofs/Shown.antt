@@ -29,7 +29,10 @@ pub record Shows (c : Counts) (found seen walked : ℕ) (ids distances trail ids
   pub distances-are : take (c .found) distances′ ≡ distances
   pub trail-is : take (c .walked) trail′ ≡ trail
 
-shows : {a : Ask} {found seen walked : ℕ} {near far way ids distances trail ids′ distances′ trail′ : List ℕ} {c : Counts} → Gives a found seen walked near far way → SearchCall a ids distances trail (Done c) ids′ distances′ trail′ → Shows c found seen walked near far way ids′ distances′ trail′
+shows : {a : Ask} {found seen walked : ℕ} {near far way ids distances trail ids′ distances′ trail′ : List ℕ} {c : Counts}
+    → Gives a found seen walked near far way
+    → SearchCall a ids distances trail (Done c) ids′ distances′ trail′
+    → Shows c found seen walked near far way ids′ distances′ trail′
 unfolding countsOf
 shows g h =
     let s = searches-by-the-rules h in
@@ -43,11 +46,15 @@ shows g h =
     }
 
 -- P3: ask 0
-pub p3 : {c : Counts} {ids distances trail ids′ distances′ trail′ : List ℕ} → SearchCall (asked 1 1) ids distances trail (Done c) ids′ distances′ trail′ → Shows c 1 3 2 (1 ∷ []) (1 ∷ []) (0 ∷ 1 ∷ []) ids′ distances′ trail′
+pub p3 : {c : Counts} {ids distances trail ids′ distances′ trail′ : List ℕ}
+    → SearchCall (asked 1 1) ids distances trail (Done c) ids′ distances′ trail′
+    → Shows c 1 3 2 (1 ∷ []) (1 ∷ []) (0 ∷ 1 ∷ []) ids′ distances′ trail′
 p3 h = shows (examples .p3) h
 
 -- P4: ask 1
-pub p4 : {c : Counts} {ids distances trail ids′ distances′ trail′ : List ℕ} → SearchCall (asked 3 2) ids distances trail (Done c) ids′ distances′ trail′ → Shows c 2 3 3 (1 ∷ 2 ∷ []) (1 ∷ 1 ∷ []) (0 ∷ 1 ∷ 2 ∷ []) ids′ distances′ trail′
+pub p4 : {c : Counts} {ids distances trail ids′ distances′ trail′ : List ℕ}
+    → SearchCall (asked 3 2) ids distances trail (Done c) ids′ distances′ trail′
+    → Shows c 2 3 3 (1 ∷ 2 ∷ []) (1 ∷ 1 ∷ []) (0 ∷ 1 ∷ 2 ∷ []) ids′ distances′ trail′
 p4 h = shows (examples .p4) h
 
 -- P9: D of 64 coordinates of -128 and 64 of 127

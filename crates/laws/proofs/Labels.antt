@@ -93,7 +93,11 @@ largest-most p (suc k) t h y = by (λ l. largest-most p k t l y) (p (suc k)) ref
 -- ---- the label
 
 -- a number that passes, the next of which fails, is the label: for code that has found it
-pub label-is : (duv dwv r : ℕ) → r ≤ 32767 → (0 < r → notAbove duv dwv r ≡ true) → (r < 32767 → notAbove duv dwv (r + 1) ≡ false) → r ≡ labelOf duv dwv
+pub label-is : (duv dwv r : ℕ)
+    → r ≤ 32767
+    → (0 < r → notAbove duv dwv r ≡ true)
+    → (r < 32767 → notAbove duv dwv (r + 1) ≡ false)
+    → r ≡ labelOf duv dwv
 unfolding labelOf
 label-is duv dwv r h passes fails =
     largest-is (notAbove duv dwv) 32767 r h passes (λ t l m. test-up duv dwv (r + 1) t (omega arith) (fails (omega arith)))

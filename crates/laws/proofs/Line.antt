@@ -115,7 +115,11 @@ module _ (key : ℕ → ℕ) (n : ℕ) (ordered : Ordered n key) where
       r (omega arith) (λ i li. f (suc i) (omega arith)) t
 
   -- none is left where none on the list is in w
-  pub none-on : (l : List ℕ) (p w : ℕ → Bool) → Whole key n p l → Within n w p → ((i : ℕ) → i < length l → w (getD l i 0) ≡ false) → first key n w ≡ none
+  pub none-on : (l : List ℕ) (p w : ℕ → Bool)
+      → Whole key n p l
+      → Within n w p
+      → ((i : ℕ) → i < length l → w (getD l i 0) ≡ false)
+      → first key n w ≡ none
   none-on [] p w h s f = ⊎-elim (λ e. e) (λ g. let t = first-some key n w (g .1) in absurd (h (g .0) (t .0) (s (g .0) (t .0) (t .1)))) (first-cases key n w)
   none-on (x ∷ l) p w h s f =
       none-on l (without x p) w (h .1) (λ y ly e. without-in x p y (s y ly e) (λ d. never (rw d at e) (f 0 (omega arith)))) (λ i li. f (suc i) (omega arith))

@@ -48,7 +48,11 @@ module _ (key : ℕ → ℕ) where
   more : (n : ℕ) (p : ℕ → Bool) (P : ℕ → Type 0) → ((y : ℕ) → y < n → p y ≡ true → P y) → (p n ≡ true → P n) → (y : ℕ) → y < suc n → p y ≡ true → P y
   more n p P h t y l e = ⊎-elim (λ q. subst P (sym q) (t (rw q at e))) (λ k. h y k e) (below l)
 
-  earlier : (n : ℕ) (p : ℕ → Bool) (x : ℕ) (b : Bool) → ltb (key n) (key x) ≡ b → p n ≡ true → Least n p x → First (suc n) p (cond b (some n) (some x))
+  earlier : (n : ℕ) (p : ℕ → Bool) (x : ℕ) (b : Bool)
+      → ltb (key n) (key x) ≡ b
+      → p n ≡ true
+      → Least n p x
+      → First (suc n) p (cond b (some n) (some x))
   earlier n p x true c e h = (
     omega arith,
     e,

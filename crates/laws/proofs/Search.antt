@@ -93,7 +93,10 @@ module _ (n : ℕ) (key : ℕ → ℕ) (width : ℕ) where
   unfolding choice
   choice-some seen waits e = rw (e, choice)
 
-  pub choice-same : (a b p q : ℕ → Bool) → ((y : ℕ) → y < n → a y ≡ b y) → ((y : ℕ) → y < n → p y ≡ q y) → choice n key width a p ≡ choice n key width b q
+  pub choice-same : (a b p q : ℕ → Bool)
+      → ((y : ℕ) → y < n → a y ≡ b y)
+      → ((y : ℕ) → y < n → p y ≡ q y)
+      → choice n key width a p ≡ choice n key width b q
   unfolding before
   choice-same a b p q f g =
       ⊎-elim
@@ -146,7 +149,8 @@ module _ (n : ℕ) (key : ℕ → ℕ) (width : ℕ) (s : State) where
       next-cases
 
   -- what a stop tells
-  pub stops : next n key width s ≡ none → (first key n (waiting s) ≡ none) ⊎ ((x : ℕ) × (first key n (waiting s) ≡ some x) × (width ≤ before n key (s .seen) x))
+  pub stops : next n key width s ≡ none
+      → (first key n (waiting s) ≡ none) ⊎ ((x : ℕ) × (first key n (waiting s) ≡ some x) × (width ≤ before n key (s .seen) x))
   stops e =
       ⊎-elim
       inl
@@ -161,7 +165,9 @@ module _ (n : ℕ) (key : ℕ → ℕ) (edge : ℕ → ℕ → Bool) (width : �
   run-stops zero s e = refl
   run-stops (suc fuel) s e = rw (e, run)
 
-  pub run-visits : (fuel : ℕ) (s : State) {x : ℕ} → next n key width s ≡ some x → run n key edge width (suc fuel) s ≡ run n key edge width fuel (visit edge s x)
+  pub run-visits : (fuel : ℕ) (s : State) {x : ℕ}
+      → next n key width s ≡ some x
+      → run n key edge width (suc fuel) s ≡ run n key edge width fuel (visit edge s x)
   unfolding run
   run-visits fuel s v = rw (v, run)
 
@@ -218,7 +224,10 @@ module _ (n : ℕ) (key : ℕ → ℕ) (edge : ℕ → ℕ → Bool) (width : �
       ∙ ap (λ t. visit edge t x) (sym (run-visits i s (f .1))))
       (stop-or-visit n key width s)
 
-  pub run-done : (i j : ℕ) (s : State) → i ≤ j → next n key width (run n key edge width i s) ≡ none → run n key edge width j s ≡ run n key edge width i s
+  pub run-done : (i j : ℕ) (s : State)
+      → i ≤ j
+      → next n key width (run n key edge width i s) ≡ none
+      → run n key edge width j s ≡ run n key edge width i s
   unfolding run
   run-done zero j s h e = run-stops j s e
   run-done (suc i) zero s h e = absurd (not-suc-le-zero h)

@@ -113,7 +113,10 @@ pub some-row : (n i : ℕ) → i < n * n → 0 < n
 some-row zero i l = absurd (not-suc-le-zero l)
 some-row (suc n) i l = omega arith
 
-pick-keys : (key key′ : ℕ → ℕ) (b : Bool) (x : ℕ) (r : Option ℕ) → key x ≡ key′ x → ((y : ℕ) → r ≡ some y → key y ≡ key′ y) → pick key b x r ≡ pick key′ b x r
+pick-keys : (key key′ : ℕ → ℕ) (b : Bool) (x : ℕ) (r : Option ℕ)
+    → key x ≡ key′ x
+    → ((y : ℕ) → r ≡ some y → key y ≡ key′ y)
+    → pick key b x r ≡ pick key′ b x r
 unfolding pick
 pick-keys key key′ false x r e h = refl
 pick-keys key key′ true x none e h = refl

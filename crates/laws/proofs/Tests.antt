@@ -134,7 +134,12 @@ count-same zero p q h = refl
 count-same (suc n) p q h = ap₂ (λ b m. cond b 1 0 + m) (h n (omega arith)) (count-same n p q (λ y l. h y (omega arith)))
 
 -- q is p and x
-pub count-one : (n : ℕ) (p q : ℕ → Bool) (x : ℕ) → x < n → p x ≡ false → q x ≡ true → ((y : ℕ) → (y ≡ x → ⊥) → p y ≡ q y) → count n q ≡ suc (count n p)
+pub count-one : (n : ℕ) (p q : ℕ → Bool) (x : ℕ)
+    → x < n
+    → p x ≡ false
+    → q x ≡ true
+    → ((y : ℕ) → (y ≡ x → ⊥) → p y ≡ q y)
+    → count n q ≡ suc (count n p)
 unfolding count
 count-one zero p q x l f t h = absurd (not-suc-le-zero l)
 count-one (suc n) p q x l f t h =

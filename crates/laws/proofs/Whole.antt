@@ -56,7 +56,11 @@ module _ (n : ℕ) (key : ℕ → ℕ) (edge : ℕ → ℕ → Bool) (width : �
     followed = run-keeps n key edge width (Followed edge) (λ s x v h. visit-followed edge s x h) n (start given) (start-followed edge given)
 
     -- what is seen at the end is closed under the edges
-    pub seen-closed : (x y : ℕ) → x < n → search n key edge width given .seen x ≡ true → edge x y ≡ true → search n key edge width given .seen y ≡ true
+    pub seen-closed : (x y : ℕ)
+        → x < n
+        → search n key edge width given .seen x ≡ true
+        → edge x y ≡ true
+        → search n key edge width given .seen y ≡ true
     seen-closed x y l t e = followed x y (wide-done (search n key edge width given) (search-stops n key edge width given) x l t) e
 
     module _ (δ : ℕ → ℕ → ℕ) (symm : Symmetric δ) (closing : Closing δ n edge) where

@@ -90,6 +90,8 @@ unfolding placedAnswer
 placed-end {at} {end} {l} {old} p =
     (ap End (p .ends) ∙ sym (ends-in at (length l) (length old) (p .fits)), p .is ∙ sym (after-in at l old (p .fits)))
 
-pub placed-short : (at : ℕ) (l old : List ℕ) → Short ≡ ending at (length l) (length old) → (Short ≡ placedAnswer at l old) × (old ≡ placedAfter at l old)
+pub placed-short : (at : ℕ) (l old : List ℕ)
+    → Short ≡ ending at (length l) (length old)
+    → (Short ≡ placedAnswer at l old) × (old ≡ placedAfter at l old)
 unfolding placedAnswer
 placed-short at l old e = (e, sym (after-past at l old (past at (length l) (length old) e)))

@@ -137,7 +137,10 @@ decimals-step {at} {x} {place} {rest} {old} {out} h r l d q place′ e =
 pub decimals-more : {at x place rest : ℕ} {old out : List ℕ} → Decimals at x old place rest out → 10 ≤ rest → 1 ≤ place
 decimals-more {rest = rest} h l = omega (arith, h .place-is, length-more rest l, length-some (rest / 10))
 
-pub decimals-room : {at x place rest : ℕ} {old out : List ℕ} → Decimals at x old place rest out → at + length (decimal x) ≤ length old → place < length out
+pub decimals-room : {at x place rest : ℕ} {old out : List ℕ}
+    → Decimals at x old place rest out
+    → at + length (decimal x) ≤ length old
+    → place < length out
 decimals-room h r = omega (arith, h .place-is, h .within, h .size)
 
 pub decimals-end :
@@ -155,6 +158,9 @@ decimals-end {at} {x} {place} {rest} {old} {out} h r l d q end e =
     }
 
 -- a space, and the number
-pub part-end : (x : ℕ) {at end : ℕ} {old new : List ℕ} → at < length old → Put (at + 1) (decimal x) (set old at 32) new end → Put at (part x) old new end
+pub part-end : (x : ℕ) {at end : ℕ} {old new : List ℕ}
+    → at < length old
+    → Put (at + 1) (decimal x) (set old at 32) new end
+    → Put at (part x) old new end
 unfolding part
 part-end x {at} {end} {old} l h = puts (put-byte at old 32 l) h

@@ -24,7 +24,11 @@ other-way : (t : Bool) (x y z : ℕ) → (t ≡ false → y ≡ z) → cond t x 
 other-way true x y z h = refl
 other-way false x y z h = h refl
 
-room-enough : (n k ids distances trail : ℕ) → k ≤ ids → k ≤ distances → n ≤ trail → _≡_ {A = ℕ} (cond (ltb ids k || (ltb distances k || ltb trail n)) 10 0) 0
+room-enough : (n k ids distances trail : ℕ)
+    → k ≤ ids
+    → k ≤ distances
+    → n ≤ trail
+    → _≡_ {A = ℕ} (cond (ltb ids k || (ltb distances k || ltb trail n)) 10 0) 0
 room-enough n k ids distances trail i j l = rw (le-ltb ids k i, le-ltb distances k j, le-ltb trail n l)
 
 pub same-refusal : (a : Ask) → askedRefusal a 128 128 128 ≡ askedRefusal a (a .k) (a .k) (a .n)

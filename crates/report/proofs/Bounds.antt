@@ -40,7 +40,11 @@ parts-most [] h = omega arith
 parts-most (x ∷ l) h =
     omega (arith, length-append (part x) (parts l), part-short x (h x (on-head x l)), parts-most l (λ y o. h y (on-tail x l y o)))
 
-pub pairs-most : (f : ℕ → ℕ) → ((y : ℕ) → f y < 10000000) → (l : List ℕ) → ((y : ℕ) → on l y ≡ true → y < 1000) → length (pairs l (map f l)) ≤ 12 * length l
+pub pairs-most : (f : ℕ → ℕ)
+    → ((y : ℕ) → f y < 10000000)
+    → (l : List ℕ)
+    → ((y : ℕ) → on l y ≡ true → y < 1000)
+    → length (pairs l (map f l)) ≤ 12 * length l
 unfolding pairs
 pairs-most f near [] h = omega arith
 pairs-most f near (x ∷ l) h =

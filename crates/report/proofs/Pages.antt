@@ -28,7 +28,10 @@ after-size at l old =
     (le-or-lt (at + length l) (length old))
 
 -- what is placed is on the page
-pub paged : (at : ℕ) (l m old : List ℕ) {new : List ℕ} {r : Placed} → l ≡ m → (r ≡ placedAnswer at l old) × (new ≡ placedAfter at l old) → Paged at m old new r
+pub paged : (at : ℕ) (l m old : List ℕ) {new : List ℕ} {r : Placed}
+    → l ≡ m
+    → (r ≡ placedAnswer at l old) × (new ≡ placedAfter at l old)
+    → Paged at m old new r
 unfolding placedAnswer
 paged at l m old e h = record {
   answers = h .0 ∙ ap (λ (x : List ℕ). ending at (length x) (length old)) e;
@@ -47,7 +50,10 @@ paged-none at old h =
     }
 
 -- bytes, and then more
-pub paged-more : {at next : ℕ} {a b old mid new : List ℕ} {r : Placed} → Paged at a old mid (End next) → Paged next b mid new r → Paged at (a ++ b) old new r
+pub paged-more : {at next : ℕ} {a b old mid new : List ℕ} {r : Placed}
+    → Paged at a old mid (End next)
+    → Paged next b mid new r
+    → Paged at (a ++ b) old new r
 paged-more {at} {next} {a} {b} {old} {mid} {new} {r} x y =
     let f = ended at (length a) (length old) (x .answers) in
     let z = x .size in

@@ -163,7 +163,11 @@ module _ {n d : ℕ} {vectors query : List ℤ} (g : Given n d vectors query) wh
       omega (arith, h .many, h .line-size, given-small, count-lt n (sees flags) id l (rw f))
 
   -- an id of the set has a flag, and the seen ids have room in the line
-  pub flag-there : {flags line : List ℕ} {seen from : ℕ} → Lined n (keyOf d vectors query) flags line seen from → {id : ℕ} → id < n → id < length flags
+  pub flag-there : {flags line : List ℕ} {seen from : ℕ}
+      → Lined n (keyOf d vectors query) flags line seen from
+      → {id : ℕ}
+      → id < n
+      → id < length flags
   flag-there h l = omega (arith, h .flags-size, given-small)
 
   pub line-holds : {flags line : List ℕ} {seen from : ℕ} → Lined n (keyOf d vectors query) flags line seen from → seen ≤ length line

@@ -46,7 +46,9 @@ module _ (flags : List ℕ) (x : ℕ) (lx : x < length flags) (w : waits flags x
       (both (eqb y x))
 
   -- the line stays as it is
-  pub mark-lined : {n : ℕ} {key : ℕ → ℕ} {line : List ℕ} {seen from : ℕ} → Lined n key flags line seen from → Lined n key (set flags x 2) line seen from
+  pub mark-lined : {n : ℕ} {key : ℕ → ℕ} {line : List ℕ} {seen from : ℕ}
+      → Lined n key flags line seen from
+      → Lined n key (set flags x 2) line seen from
   mark-lined {n} {key} h = record {
     flags-size = length-set flags x 2 ∙ h .flags-size;
     line-size = h .line-size;

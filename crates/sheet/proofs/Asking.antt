@@ -19,7 +19,8 @@ use Rattle.sheet.proofs.Putting.{putBits-none, putBits-append, put-then
 
 -- ---- one ask
 
-numberBits-is : (ns : List ℕ) → bits 7 (getD ns 0 0) ++ (bits 7 (getD ns 1 0 - 1) ++ (bits 7 (getD ns 2 0 - 1) ++ bits 15 (getD ns 3 0))) ≡ numberBits ns
+numberBits-is : (ns : List ℕ)
+    → bits 7 (getD ns 0 0) ++ (bits 7 (getD ns 1 0 - 1) ++ (bits 7 (getD ns 2 0 - 1) ++ bits 15 (getD ns 3 0))) ≡ numberBits ns
 unfolding numberBits
 numberBits-is ns = refl
 

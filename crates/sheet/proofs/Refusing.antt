@@ -19,7 +19,8 @@ use Rattle.laws.proofs.Writable.{shapeOf, asksOf, lengthOf, lastOf, refusalAt, 
 -- ---- one ask
 
 -- the numbers that stand from j on
-pub ask-at : (ns : List ℕ) (j : ℕ) → askRefusal (getD ns j 0 ∷ getD ns (j + 1) 0 ∷ getD ns (j + 2) 0 ∷ getD ns (j + 3) 0 ∷ []) ≡ askRefusal (drop j ns)
+pub ask-at : (ns : List ℕ) (j : ℕ)
+    → askRefusal (getD ns j 0 ∷ getD ns (j + 1) 0 ∷ getD ns (j + 2) 0 ∷ getD ns (j + 3) 0 ∷ []) ≡ askRefusal (drop j ns)
 unfolding askRefusal
 ask-at ns j =
     let z : j + 0 ≡ j = omega arith in

@@ -76,7 +76,11 @@ module _ (k : Contents) (output : List ℕ) (l : ℕ) (wrote : writeAnswer k out
 -- ---- lists that agree part by part
 
 module _ {A : Type 0} (m : ℕ) where
-  parts : (a : ℕ) (xs zs : List A) → length xs ≡ a * m → length zs ≡ a * m → ((i : ℕ) → i < a → take m (drop (i * m) xs) ≡ take m (drop (i * m) zs)) → xs ≡ zs
+  parts : (a : ℕ) (xs zs : List A)
+      → length xs ≡ a * m
+      → length zs ≡ a * m
+      → ((i : ℕ) → i < a → take m (drop (i * m) xs) ≡ take m (drop (i * m) zs))
+      → xs ≡ zs
   parts zero xs zs e f h = drop-of-length-le xs {i = 0} (omega arith) ∙ sym (drop-of-length-le zs {i = 0} (omega arith))
   parts (suc a) xs zs e f h =
       let z : 0 * m ≡ 0 = omega arith in
@@ -172,7 +176,9 @@ module _ (ys : List ℕ) (small : Bytes ys) (k : Contents) (was : AsRead ys k) w
       let qs = queries-same in
       λ i. record { n = n-is i; d = d-is i; c = c-is i; asks = asks-is i; vectors = vectors-same i; numbers = ns i; queries = qs i }
 
-  pub write-read : (output : List ℕ) → length ys ≤ length output → (writeAnswer k output ≡ gives (length ys)) × (outputAfter k output ≡ over ys output)
+  pub write-read : (output : List ℕ)
+      → length ys ≤ length output
+      → (writeAnswer k output ≡ gives (length ys)) × (outputAfter k output ≡ over ys output)
   unfolding writeAnswer outputAfter writeRefused contentsOf
   write-read output room =
       let is : sheet k ≡ ys = ap sheet (sym contents-same) ∙ write-back ys read small in

@@ -34,7 +34,11 @@ module _ (n d : ℕ) (vectors : List ℤ) (given : setRefusal n d (length vector
       ap (take 64) (point-given id l) ∙ take-all 64 (take d (drop (id * d) vectors)) (simp length-take (omega arith))
 
   -- D from a query, as `measure` has it
-  pub measured : (query : List ℤ) → length query ≡ d → (id : ℕ) → id < n → dist (take 64 (pointOf n d vectors id)) (take 64 query) ≡ away d vectors query id
+  pub measured : (query : List ℤ)
+      → length query ≡ d
+      → (id : ℕ)
+      → id < n
+      → dist (take 64 (pointOf n d vectors id)) (take 64 query) ≡ away d vectors query id
   unfolding away
   measured query e id l =
       let few : d ≤ 64 = set-ok n d (length vectors) given .few-coordinates in

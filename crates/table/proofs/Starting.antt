@@ -46,7 +46,12 @@ pub keyed-small : {δ : ℕ → ℕ → ℕ} {n : ℕ} (u v : ℕ) → Distances
 unfolding keyed
 keyed-small u v kept lu lv = omega (arith, kept .small u v lu lv, kept .few)
 
-pub sofar-none : {δ : ℕ → ℕ → ℕ} {n u : ℕ} {left lead : List ℕ} → Distances δ n → u < n → Queued δ n u left → lead ≡ replicate 128 top → Sofar δ n u left lead
+pub sofar-none : {δ : ℕ → ℕ → ℕ} {n u : ℕ} {left lead : List ℕ}
+    → Distances δ n
+    → u < n
+    → Queued δ n u left
+    → lead ≡ replicate 128 top
+    → Sofar δ n u left lead
 sofar-none {δ} {n} {u} {left} {lead} kept lu q e = record {
   long-left = q .long;
   long-lead = replicated e;

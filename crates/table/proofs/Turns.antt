@@ -107,7 +107,10 @@ module _ {δ : ℕ → ℕ → ℕ} {n u at key : ℕ} {table₀ left lead table
           (going .sofar .waiting v (omega (arith, kept .few)))
 
 -- the row is that of the table as it was before u's own cell was written
-pub row-from : {δ : ℕ → ℕ → ℕ} {n u at : ℕ} {new : List ℕ} (old : List ℕ) (x : ℕ) → u < n → RowIn δ n u at (set old (at + u) x) new → RowIn δ n u at old new
+pub row-from : {δ : ℕ → ℕ → ℕ} {n u at : ℕ} {new : List ℕ} (old : List ℕ) (x : ℕ)
+    → u < n
+    → RowIn δ n u at (set old (at + u) x) new
+    → RowIn δ n u at old new
 row-from {δ} {n} {u} {at} {new} old x lu row = record {
   long = row .long ∙ length-set old (at + u) x;
   cells = row .cells;

@@ -15,7 +15,8 @@ use Rattle.space.proofs.point.Statement.{statement}
 use Rattle.space.proofs.point.Tie as tie
 
 -- where the point is not refused, its coordinates are in the vectors
-fits : (c : tie.Else1) → c .before .before .args .id * c .before .before .args .d + c .before .before .args .d ≤ length (now (c .before .before .args .vectors))
+fits : (c : tie.Else1)
+    → c .before .before .args .id * c .before .before .args .d + c .before .before .args .d ≤ length (now (c .before .before .args .vectors))
 fits c =
     let ok = point-ok _ _ _ _ (sym (c .before .point-refusal .ensures) ∙ c .if1 .left) in
     room _ (ok .0) (ok .1)

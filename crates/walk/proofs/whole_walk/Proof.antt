@@ -17,7 +17,8 @@ none-given : (c : tie.Else1) →
     walkRefusal (a .n) (a .d) (length (now (a .vectors))) (length (now (a .table))) (length (now (a .query))) (a .start) (a .threshold) ≡ 0
 none-given c = sym (c .before .walk-refusal .ensures) ∙ c .if1 .left
 
-known : (c : tie.Else1) → let a = c .before .before .before .args in Taken (a .n) (a .d) (now (a .vectors)) (now (a .table)) (now (a .query)) (a .start)
+known : (c : tie.Else1)
+    → let a = c .before .before .before .args in Taken (a .n) (a .d) (now (a .vectors)) (now (a .table)) (now (a .query)) (a .start)
 known c = taken _ _ _ _ _ _ _ (none-given c)
 
 walk-refusal-requires : tie.Need-walk-refusal-requires
