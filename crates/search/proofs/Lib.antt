@@ -1,6 +1,7 @@
 pub mod Places
 pub mod Seeing
-pub mod Marking
+pub mod Listing
+pub mod Following
 pub mod Visiting
 pub mod Choosing
 pub mod Rounds

@@ -58,16 +58,6 @@ module _ (flags : List ℕ) (x : ℕ) (lx : x < length flags) (w : waits flags x
     passed = λ i l. waits-less _ (h .passed i l);
   }
 
--- where all ids are seen, following edges changes nothing
-pub all-marked : (n : ℕ) (row : List ℕ) (m : ℕ) (flags : List ℕ) → n ≤ count n (sees flags) → Marked n row m flags flags
-all-marked n row m flags h = record { size = refl; each = λ y l. same y (all y l) }
-  where
-    all : (y : ℕ) → y < n → sees flags y ≡ true
-    all y l = ⊎-elim (λ t. t) (λ f. absurd (lt-irrefl n (omega (arith, count-lt n (sees flags) y l f)))) (both (sees flags y))
-
-    same : (y : ℕ) → sees flags y ≡ true → getD flags y 0 ≡ markedAt row m flags y
-    same y t = ⊎-elim (λ e. absurd (never t (ap not e))) (λ e. rw e) (both (eqb (getD flags y 0) 0))
-
 -- a row of the table is within it, and the table is small
 pub row-fits : (n x : ℕ) → n ≤ 128 → x < n → (x * n + n ≤ n * n) × (n * n ≤ 16384)
 row-fits n x small l = (omega (arith, mul-le-mul-right n l), small-square n small)

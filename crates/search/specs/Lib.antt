@@ -1,4 +1,4 @@
 pub mod Line
-pub mod Rows
+pub mod Rest
 pub mod Seen
 pub mod Answer

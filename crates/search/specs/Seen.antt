@@ -31,10 +31,6 @@ pub record Lined (n : ℕ) (key : ℕ → ℕ) (flags line : List ℕ) (seen fro
   pub from-in : from ≤ seen
   pub passed : (i : ℕ) → i < from → waits flags (getD line i 0 % 128) ≡ false
 
--- the flags after one cell of a row was looked at
-abbrev pub looked : List ℕ → ℕ → ℕ → List ℕ → List ℕ
-looked row m y flags = cond (eqb (getD flags y 0) 0 && leb (getD row y 0) m) (set flags y 1) flags
-
 -- the flag of an id after the edges of a row were followed
 abbrev pub markedAt : List ℕ → ℕ → List ℕ → ℕ → ℕ
 markedAt row m old y = cond (eqb (getD old y 0) 0 && leb (getD row y 0) m) 1 (getD old y 0)

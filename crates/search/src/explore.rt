@@ -7,6 +7,7 @@ ghost use mathlib.Core.Bool.{true};
 ghost use Prim.Native.Nat.{ℕ, _*_, _<_, _≤_};
 ghost use lib.ListN.{length, getD};
 ghost use Rattle.search.specs.Line.{waits};
+ghost use Rattle.search.specs.Rest.{Rest};
 ghost use Rattle.search.specs.Seen.{Given, keyOf, Lined, Visited, goesOn, Explored};
 
 // What an exploration has come to: how many points are seen, and how many are on the trail.
@@ -27,18 +28,21 @@ fn visit(
     front: Front,
     flags: &mut [u8],
     line: &mut [u32],
+    rest: &mut [u8],
 ) -> Front
     requires given { ⌜ Given n d (now vectors) (now query) ⌝ }
     requires lined { ⌜ Lined n (keyOf d (now vectors) (now query)) (now flags) (now line) (front .seen) (front .from) ⌝ }
+    requires rest { ⌜ Rest n (now flags) (now rest) (front .left) ⌝ }
     requires table { ⌜ length (now table) ≡ n * n ⌝ }
     requires there { ⌜ (x < n) × (waits (now flags) x ≡ true) ⌝ }
     ensures { λ r. ⌜ Visited n (keyOf d (now (vectors .entry)) (now (query .entry))) (now (table .entry)) threshold x
-        (now (flags .entry)) (now (flags .exit)) (now (line .exit)) (r .seen) (r .from) ⌝ }
+        (now (flags .entry)) (now (flags .exit)) (now (line .exit)) (r .seen) (r .from)
+        × Rest n (now (flags .exit)) (now (rest .exit)) (r .left) ⌝ }
 {
     flags[x] = 2;
     let a = x * n;
     let e = a + n;
-    let next = follow::spread(
+    let next = follow::follow(
         n,
         d,
         vectors,
@@ -48,10 +52,15 @@ fn visit(
         front,
         flags,
         line,
+        rest,
     );
     let seen = next.seen;
     let from = line::first_open(line, flags, seen, next.from);
-    Front { seen, from }
+    Front {
+        seen,
+        from,
+        left: next.left,
+    }
 }
 
 // Whether the search goes on: a point waits, and fewer than `width` seen points come before it.
@@ -77,10 +86,12 @@ pub(crate) fn explore(
     start: Front,
     flags: &mut [u8],
     line: &mut [u32],
+    rest: &mut [u8],
     trail: &mut [u16],
 ) -> Ways
     requires given { ⌜ Given n d (now vectors) (now query) ⌝ }
     requires lined { ⌜ Lined n (keyOf d (now vectors) (now query)) (now flags) (now line) (start .seen) (start .from) ⌝ }
+    requires rest { ⌜ Rest n (now flags) (now rest) (start .left) ⌝ }
     requires fresh { ⌜ ((y : ℕ) → getD (now flags) y 0 ≤ 1) ⌝ }
     requires table { ⌜ (length (now table) ≡ n * n) × (n ≤ length (now trail)) ⌝ }
     ensures { λ r. ⌜ Explored n (keyOf d (now (vectors .entry)) (now (query .entry))) (now (table .entry)) threshold width
@@ -103,6 +114,7 @@ pub(crate) fn explore(
             front,
             flags,
             line,
+            rest,
         );
         walked += 1;
     }

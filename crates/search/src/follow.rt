@@ -1,112 +1,59 @@
-// A row of the table is followed: the points with an edge in it become seen.
-use crate::rows;
+// A row of the table is followed: the points with an edge in it become seen. Only the cells of ids that may not be seen yet are read; these stand on a
+// list, in no order, that a point leaves when it is reached. Late in a search the list is short, and so is following a row.
 use crate::see::Front;
 use crate::see::see;
 ghost use mathlib.Core.Path.{_≡_};
 ghost use Prim.Native.Nat.{_<_, _≤_};
 ghost use lib.ListN.{length};
-ghost use Rattle.search.specs.Rows.{Part};
-ghost use Rattle.search.specs.Seen.{Given, keyOf, Lined, looked, Marked};
+ghost use Rattle.search.specs.Rest.{Numbered, Rest, Reached};
+ghost use Rattle.search.specs.Seen.{Given, keyOf, Lined, Marked};
 
-// Looks at one cell of a row: a point with an edge becomes seen. Few cells have an edge, so that test comes first.
-fn look(
+// At first every id is on the list.
+pub(crate) fn list_all(n: usize, rest: &mut [u8])
+    requires { ⌜ (n ≤ 128) × (length (now rest) ≡ 128) ⌝ }
+    ensures { λ _. ⌜ Numbered n (now (rest .exit)) ⌝ }
+{
+    let mut i = 0;
+    while i < n {
+        rest[i] = i as u8;
+        i += 1;
+    }
+}
+
+// The point at place i of the list has an edge: it becomes seen, unless it is, and leaves the list, where the last one takes its place.
+fn reach(
     n: usize,
     d: usize,
     vectors: &[i8],
     query: &[i8],
-    row: &[u16],
-    threshold: u16,
-    id: usize,
+    i: usize,
     front: Front,
     flags: &mut [u8],
     line: &mut [u32],
+    rest: &mut [u8],
 ) -> Front
     requires given { ⌜ Given n d (now vectors) (now query) ⌝ }
     requires lined { ⌜ Lined n (keyOf d (now vectors) (now query)) (now flags) (now line) (front .seen) (front .from) ⌝ }
-    requires row { ⌜ (id < n) × (length (now row) ≡ n) ⌝ }
-    ensures { λ r. ⌜ (now (flags .exit) ≡ looked (now (row .entry)) threshold id (now (flags .entry)))
+    requires rest { ⌜ Rest n (now flags) (now rest) (front .left) × (i < front .left) ⌝ }
+    ensures { λ r. ⌜ Reached n (now (flags .entry)) (now (rest .entry)) i (front .left) (now (flags .exit)) (now (rest .exit)) (r .left)
         × Lined n (keyOf d (now (vectors .entry)) (now (query .entry))) (now (flags .exit)) (now (line .exit)) (r .seen) (r .from) ⌝ }
 {
-    if row[id] <= threshold {
-        if flags[id] == 0 {
-            return see(n, d, vectors, query, id, front, flags, line);
-        }
+    let id = rest[i] as usize;
+    let left = front.left - 1;
+    rest[i] = rest[left];
+    let next = Front {
+        seen: front.seen,
+        from: front.from,
+        left,
+    };
+    if flags[id] == 0 {
+        return see(n, d, vectors, query, id, next, flags, line);
     }
-    front
-}
-
-// Looks at the cells of a row from `from` up to `end`, one by one.
-fn scan(
-    n: usize,
-    d: usize,
-    vectors: &[i8],
-    query: &[i8],
-    row: &[u16],
-    threshold: u16,
-    from: usize,
-    end: usize,
-    start: Front,
-    flags: &mut [u8],
-    line: &mut [u32],
-) -> Front
-    requires given { ⌜ Given n d (now vectors) (now query) ⌝ }
-    requires lined { ⌜ Lined n (keyOf d (now vectors) (now query)) (now flags) (now line) (start .seen) (start .from) ⌝ }
-    requires row { ⌜ (from ≤ end) × (end ≤ n) × (length (now row) ≡ n) ⌝ }
-    ensures { λ r. ⌜ Part (now (row .entry)) threshold (now (flags .entry)) from end (now (flags .exit))
-        × Lined n (keyOf d (now (vectors .entry)) (now (query .entry))) (now (flags .exit)) (now (line .exit)) (r .seen) (r .from) ⌝ }
-{
-    let mut front = start;
-    let mut id = from;
-    while id < end {
-        front = look(n, d, vectors, query, row, threshold, id, front, flags, line);
-        id += 1;
-    }
-    front
-}
-
-// The same. A block of 16 cells that leads to no new point is left out: each other one has a point that becomes seen, so there are fewer than n of these
-// in a search.
-fn block(
-    n: usize,
-    d: usize,
-    vectors: &[i8],
-    query: &[i8],
-    row: &[u16],
-    threshold: u16,
-    from: usize,
-    end: usize,
-    front: Front,
-    flags: &mut [u8],
-    line: &mut [u32],
-) -> Front
-    requires given { ⌜ Given n d (now vectors) (now query) ⌝ }
-    requires lined { ⌜ Lined n (keyOf d (now vectors) (now query)) (now flags) (now line) (front .seen) (front .from) ⌝ }
-    requires row { ⌜ (from ≤ end) × (end ≤ n) × (length (now row) ≡ n) ⌝ }
-    ensures { λ r. ⌜ Part (now (row .entry)) threshold (now (flags .entry)) from end (now (flags .exit))
-        × Lined n (keyOf d (now (vectors .entry)) (now (query .entry))) (now (flags .exit)) (now (line .exit)) (r .seen) (r .from) ⌝ }
-{
-    if end - from == 16 {
-        if threshold < rows::sixteen(row, flags, from) {
-            return front;
-        }
-    }
-    scan(
-        n,
-        d,
-        vectors,
-        query,
-        row,
-        threshold,
-        from,
-        end,
-        front,
-        flags,
-        line,
-    )
+    next
 }
 
 // All points with an edge in a row become seen.
-fn follow(
+pub(crate) fn follow(
     n: usize,
     d: usize,
     vectors: &[i8],
@@ -116,55 +63,25 @@ fn follow(
     start: Front,
     flags: &mut [u8],
     line: &mut [u32],
+    rest: &mut [u8],
 ) -> Front
     requires given { ⌜ Given n d (now vectors) (now query) ⌝ }
     requires lined { ⌜ Lined n (keyOf d (now vectors) (now query)) (now flags) (now line) (start .seen) (start .from) ⌝ }
+    requires rest { ⌜ Rest n (now flags) (now rest) (start .left) ⌝ }
     requires row { ⌜ length (now row) ≡ n ⌝ }
     ensures { λ r. ⌜ Marked n (now (row .entry)) threshold (now (flags .entry)) (now (flags .exit))
-        × Lined n (keyOf d (now (vectors .entry)) (now (query .entry))) (now (flags .exit)) (now (line .exit)) (r .seen) (r .from) ⌝ }
+        × Lined n (keyOf d (now (vectors .entry)) (now (query .entry))) (now (flags .exit)) (now (line .exit)) (r .seen) (r .from)
+        × Rest n (now (flags .exit)) (now (rest .exit)) (r .left) ⌝ }
 {
     let mut front = start;
-    let mut id = 0;
-    while id < n {
-        let end = space::smaller(n - id, 16) + id;
-        front = block(
-            n,
-            d,
-            vectors,
-            query,
-            row,
-            threshold,
-            id,
-            end,
-            front,
-            flags,
-            line,
-        );
-        id = end;
-    }
-    front
-}
-
-// The same; where all points are seen already, the row is not read.
-pub(crate) fn spread(
-    n: usize,
-    d: usize,
-    vectors: &[i8],
-    query: &[i8],
-    row: &[u16],
-    threshold: u16,
-    front: Front,
-    flags: &mut [u8],
-    line: &mut [u32],
-) -> Front
-    requires given { ⌜ Given n d (now vectors) (now query) ⌝ }
-    requires lined { ⌜ Lined n (keyOf d (now vectors) (now query)) (now flags) (now line) (front .seen) (front .from) ⌝ }
-    requires row { ⌜ length (now row) ≡ n ⌝ }
-    ensures { λ r. ⌜ Marked n (now (row .entry)) threshold (now (flags .entry)) (now (flags .exit))
-        × Lined n (keyOf d (now (vectors .entry)) (now (query .entry))) (now (flags .exit)) (now (line .exit)) (r .seen) (r .from) ⌝ }
-{
-    if front.seen < n {
-        return follow(n, d, vectors, query, row, threshold, front, flags, line);
+    let mut i = 0;
+    while i < front.left {
+        let id = rest[i] as usize;
+        if row[id] <= threshold {
+            front = reach(n, d, vectors, query, i, front, flags, line, rest);
+        } else {
+            i += 1;
+        }
     }
     front
 }

@@ -14,7 +14,6 @@ ghost use Rattle.search.specs.Answer.{told, idOf, distanceOf};
 mod explore;
 mod follow;
 mod line;
-mod rows;
 mod see;
 
 // How many points were found, seen and walked.
@@ -138,7 +137,13 @@ pub fn search(
     }
     let mut flags = [0u8; 128];
     let mut line = [0u32; 128];
-    let nothing = Front { seen: 0, from: 0 };
+    let mut rest = [0u8; 128];
+    follow::list_all(n, &mut rest);
+    let nothing = Front {
+        seen: 0,
+        from: 0,
+        left: n,
+    };
     let first = see::see(
         n,
         d,
@@ -160,6 +165,7 @@ pub fn search(
         first,
         &mut flags,
         &mut line,
+        &mut rest,
         trail,
     );
     let seen = ways.seen;

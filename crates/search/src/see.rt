@@ -5,10 +5,11 @@ ghost use Prim.Native.Nat.{_+_, _*_, _<_, _≤_};
 ghost use lib.ListN.{getD, set};
 ghost use Rattle.search.specs.Seen.{Given, keyOf, Lined};
 
-// How many points are seen, and a place of the line before which no point waits.
+// How many points are seen, a place of the line before which no point waits, and how many ids are left on the list of those that may not be seen.
 pub(crate) struct Front {
     pub(crate) seen: usize,
     pub(crate) from: usize,
+    pub(crate) left: usize,
 }
 
 // The key of a point, by which the line is in order: smaller D first, and at equal D the lower id.
@@ -34,7 +35,8 @@ pub(crate) fn see(
     requires lined { ⌜ Lined n (keyOf d (now vectors) (now query)) (now flags) (now line) (front .seen) (front .from) ⌝ }
     requires fresh { ⌜ (id < n) × (getD (now flags) id 0 ≡ 0) ⌝ }
     ensures { λ r. ⌜ (now (flags .exit) ≡ set (now (flags .entry)) id 1)
-        × Lined n (keyOf d (now (vectors .entry)) (now (query .entry))) (now (flags .exit)) (now (line .exit)) (r .seen) (r .from) ⌝ }
+        × Lined n (keyOf d (now (vectors .entry)) (now (query .entry))) (now (flags .exit)) (now (line .exit)) (r .seen) (r .from)
+        × (r .left ≡ front .left) ⌝ }
 {
     let seen = front.seen;
     let from = front.from;
@@ -44,5 +46,6 @@ pub(crate) fn see(
     Front {
         seen: seen + 1,
         from: space::smaller(at, from),
+        left: front.left,
     }
 }

@@ -4,6 +4,7 @@ use native.Mathlib.Omega.{arith}
 use lib.ListN.{length}
 use Rattle.rules.specs.Refusals.{searchRefusal}
 use Rattle.search.proofs.Starting.{zeros-at, nothing-seen, started}
+use Rattle.search.proofs.Listing.{rest-start}
 use Rattle.search.proofs.Finish.{SearchOk, search-ok, explored-room, refusing, giving}
 use borrow.Author.Needs.{needs}
 use Rattle.search.proofs.search.Statement.{statement}
@@ -16,6 +17,9 @@ returns : tie.Need-returns
 returns c =
     let x = refusing _ _ _ _ _ _ _ _ _ _ _ _ _ (c .before .search-refusal .ensures) (c .if1 .taken) in
     (x .number, (x .ids-stay, (x .distances-stay, x .trail-stays)))
+
+slice-aggregate-list-all : tie.Need-slice-aggregate-list-all
+slice-aggregate-list-all c = search needs
 
 slice-aggregate-see : tie.Need-slice-aggregate-see
 slice-aggregate-see c = search needs
@@ -36,9 +40,12 @@ unrefused : (c : tie.Else1) →
     (a .k) (length (a .ids .now)) (length (a .distances .now)) (length (a .trail .now))
 unrefused c = search-ok _ _ _ _ _ _ _ _ _ _ _ _ (taken c)
 
+list-all-requires : tie.Need-list-all-requires
+list-all-requires c κs = (unrefused (c .before) .few-points, refl)
+
 see-requires : tie.Need-see-requires
 see-requires c κs =
-    let asked = c .before .before in
+    let asked = c .before .before .before .before .before in
     let ok = unrefused asked in
     let start = asked .before .before .before .before .before .before .args .start in (
       record { set-given = ok .set-given; query-is = ok .query-is },
@@ -51,13 +58,18 @@ slice-aggregate-explore c = search needs
 slice-aggregate-explore-2 : tie.Need-slice-aggregate-explore-2
 slice-aggregate-explore-2 c = search needs
 
+slice-aggregate-explore-3 : tie.Need-slice-aggregate-explore-3
+slice-aggregate-explore-3 c = search needs
+
 explore-requires : tie.Need-explore-requires
 explore-requires c κs =
-    let see = c .before .before .before .before .before in
-    let ok = unrefused (see .before .before .before) in
-    let first = started _ _ (ok .start-in) (ok .few-points) _ (see .see .ensures .0) in (
+    let see = c .before .before .before .before .before .before in
+    let all = see .before .before .before .before in
+    let ok = unrefused (all .before .before) in
+    let first = started _ _ (ok .start-in) (ok .few-points) _ (see .see .ensures .0) in
+    let listed = rest-start (all .list-all .ensures) (ok .few-points) in (
       record { set-given = ok .set-given; query-is = ok .query-is },
-      (see .see .ensures .1, (first .fresh, (ok .table-is, ok .trail-room))),
+      (see .see .ensures .1, (rw (see .see .ensures .2) (listed _), (first .fresh, (ok .table-is, ok .trail-room)))),
     )
 
 smaller-requires : tie.Need-smaller-requires
@@ -68,12 +80,12 @@ slice-aggregate-answer c = search needs
 
 -- where the exploration is done: the ask as it was found to be taken
 abbrev asked-before : tie.After-explore → tie.Else1
-asked-before c = c .before .before .before .before .before .before .before .before .before
+asked-before c = c .before .before .before .before .before .before .before .before .before .before .before .before .before
 
 answer-requires : tie.Need-answer-requires
 answer-requires c κs =
     let f = c .before .before .before .smaller .ensures in
-    let explore = c .before .before .before .before .before .before .before .before in
+    let explore = c .before .before .before .before .before .before .before .before .before in
     let ok = unrefused (asked-before explore) in
     (omega (arith, explored-room (ok .few-points) (explore .explore .ensures)), omega arith, omega arith)
 
@@ -90,10 +102,10 @@ returns-2 : tie.Need-returns-2
 returns-2 c =
     let answer = c .before .before .before .before in
     let smaller = answer .before .before .before .before in
-    let explore = smaller .before .before .before .before .before in
+    let explore = smaller .before .before .before .before .before .before in
     let asked = asked-before explore in
     let ok = unrefused asked in
-    let see = explore .before .before .before .before .before .before .see in
+    let see = explore .before .before .before .before .before .before .before .see in
     let first = started _ _ (ok .start-in) (ok .few-points) _ (see .ensures .0) in
     let x =
     giving _ _ _ _ _ _ _ _ _ _ _ _ _ _ _ _ _ _ _ _ (taken asked) (first .only) (explore .explore .ensures)
@@ -106,11 +118,14 @@ search-spec =
     (tie.spec
     search-refusal-requires
     returns
+    slice-aggregate-list-all
+    list-all-requires
     slice-aggregate-see
     slice-aggregate-see-2
     see-requires
     slice-aggregate-explore
     slice-aggregate-explore-2
+    slice-aggregate-explore-3
     explore-requires
     smaller-requires
     slice-aggregate-answer

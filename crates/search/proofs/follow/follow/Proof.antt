@@ -1,51 +1,88 @@
--- `search::follow::follow` meets its contract. Assumes nothing.
-use Prim.Native.Nat.{_-_, _≤_}
+-- `search::follow::follow` meets its contract: what the list has not passed may yet be reached. Assumes nothing.
+use Prim.Native.Nat.{_-_, _≤_, _<_}
 use native.Mathlib.Omega.{arith}
-use Rattle.search.specs.Rows.{Part}
-use Rattle.search.specs.Seen.{keyOf, Lined}
-use Rattle.search.proofs.Marking.{part-none, part-join, part-end}
+use lib.ListN.{length, getD}
+use Rattle.search.specs.Seen.{Lined, keyOf}
+use Rattle.search.proofs.Seeing.{given-small, flag-there}
+use Rattle.search.proofs.Following.{Following, following-start, following-pass, following-reach, following-end}
 use borrow.Author.Needs.{needs}
 use Rattle.search.proofs.follow.follow.Statement.{statement}
 use Rattle.search.proofs.follow.follow.Tie as tie
 
 abbrev Inv-loop : tie.InvT-loop
-Inv-loop n d vectors query row threshold flags₀ line₀ front₀ id₀ flags line front id =
-    (id ≤ n) × Part row threshold flags₀ 0 id flags × Lined n (keyOf d vectors query) flags line (front .seen) (front .from)
+Inv-loop n d vectors query row threshold flags₀ line₀ rest₀ front₀ i₀ flags line rest front i =
+    Following n row threshold flags₀ flags rest i (front .left) × Lined n (keyOf d vectors query) flags line (front .seen) (front .from)
 
 abbrev μ-loop : tie.MeasureT-loop
-μ-loop n d vectors query row threshold flags₀ line₀ front₀ id₀ flags line front id = n - id
+μ-loop n d vectors query row threshold flags₀ line₀ rest₀ front₀ i₀ flags line rest front i = front .left - i
+
+-- inside the loop: the next id of the list is one of the set, and has a flag
+module _ (c : tie.Then1 Inv-loop μ-loop) where
+  abbrev turn : tie.At-loop Inv-loop μ-loop
+  turn = c .before .before
+
+  abbrev entry : tie.Start Inv-loop μ-loop
+  entry = turn .before .before .before .before .before
+
+  in-set : getD (turn .loop .rest) (turn .loop .i) 0 < entry .args .n
+  in-set = turn .loop .inv .0 .list .below (turn .loop .i) (c .if1 .taken)
+
+  has-flag : getD (turn .loop .rest) (turn .loop .i) 0 < length (turn .loop .flags)
+  has-flag = flag-there (entry .pre .0) (turn .loop .inv .1) in-set
 
 loop-holds : tie.Need-loop-holds Inv-loop μ-loop
-loop-holds c = (search needs, part-none _ _ _ _, c .before .before .before .pre .1 .0)
+loop-holds c =
+    let pre = c .before .before .before .before .pre in
+    (following-start (pre .1 .1 .0) _ _, pre .1 .0)
 
-sub-smaller : tie.Need-sub-smaller Inv-loop μ-loop
-sub-smaller c = search needs
+slice-read-id : tie.Need-slice-read-id Inv-loop μ-loop
+slice-read-id c =
+    let list = turn (c .before) .loop .inv .0 .list in
+    omega (arith, list .size, list .few, c .before .if1 .taken)
 
-smaller-requires : tie.Need-smaller-requires Inv-loop μ-loop
-smaller-requires c κs = search needs
+cast-id : tie.Need-cast-id Inv-loop μ-loop
+cast-id c = omega (arith, in-set (c .before), given-small (entry (c .before) .pre .0))
 
-add-end : tie.Need-add-end Inv-loop μ-loop
-add-end c = search needs
+mul-if2 : tie.Need-mul-if2 Inv-loop μ-loop
+mul-if2 c = omega (arith, in-set (c .before), given-small (entry (c .before) .pre .0))
 
-block-requires : tie.Need-block-requires Inv-loop μ-loop
-block-requires c κs =
-    let l = c .before .before .before .before in
-    let s = l .before .before .before .before in
-    let size = c .before .before .smaller .ensures in
-    (s .pre .0, (l .loop .inv .2, (omega (arith, size), omega (arith, size, l .loop .inv .0), s .pre .1 .1)))
+shared-slice-read-if2 : tie.Need-shared-slice-read-if2 Inv-loop μ-loop
+shared-slice-read-if2 c =
+    let t = c .before .before in
+    omega (arith, in-set t, entry t .pre .1 .1 .1)
+
+reach-requires : tie.Need-reach-requires Inv-loop μ-loop
+reach-requires c κs =
+    let t = c .before .before .before .before .before .before in
+    let inv = turn t .loop .inv in
+    (entry t .pre .0, (inv .1, (inv .0 .list, t .if1 .taken)))
 
 loop-less : tie.Need-loop-less Inv-loop μ-loop
-loop-less c = search needs
+loop-less c =
+    let reach = c .before .before .before .before .before .before in
+    let t = reach .before .before .before .before .before .before .before in
+    omega (arith, t .if1 .taken, reach .reach .ensures .0 .less)
 
 loop-again : tie.Need-loop-again Inv-loop μ-loop
 loop-again c =
-    let block = c .before .before .before .before in
-    let size = block .before .before .before .smaller .ensures in
-    let l = block .before .before .before .before .before in (
-      omega (arith, size, l .loop .inv .0),
-      part-join (l .loop .inv .1) (block .block .ensures .0) (omega arith) (omega arith),
-      block .block .ensures .1,
-    )
+    let reach = c .before .before .before .before .before .before in
+    let cell = reach .before .before .before .before in
+    let t = cell .before .before .before in
+    let out = reach .reach .ensures in
+    (following-reach (turn t .loop .inv .0) (t .if1 .taken) (cell .if2 .taken) (has-flag t) (out .0), out .1)
+
+add-i : tie.Need-add-i Inv-loop μ-loop
+add-i c =
+    let t = c .before .before .before in
+    omega (arith, t .if1 .taken, turn t .loop .inv .0 .list .few)
+
+loop-less-2 : tie.Need-loop-less-2 Inv-loop μ-loop
+loop-less-2 c = omega (arith, c .before .before .before .if1 .taken)
+
+loop-again-2 : tie.Need-loop-again-2 Inv-loop μ-loop
+loop-again-2 c =
+    let t = c .before .before .before in
+    (following-pass (turn t .loop .inv .0) (t .if1 .taken) (c .if2 .left), turn t .loop .inv .1)
 
 same-length : tie.Need-same-length Inv-loop μ-loop
 same-length c = search needs
@@ -53,8 +90,13 @@ same-length c = search needs
 same-length-2 : tie.Need-same-length-2 Inv-loop μ-loop
 same-length-2 c = search needs
 
+same-length-3 : tie.Need-same-length-3 Inv-loop μ-loop
+same-length-3 c = search needs
+
 returns : tie.Need-returns Inv-loop μ-loop
-returns c = (part-end (c .before .loop .inv .1) (c .loop-test .left), c .before .loop .inv .2)
+returns c =
+    let inv = c .before .before .loop .inv in
+    (following-end (inv .0) (c .if1 .left), inv .1, inv .0 .list)
 
 pub follow-spec : {M : Type 1} → statement M
 follow-spec =
@@ -63,12 +105,17 @@ follow-spec =
     Inv-loop
     μ-loop
     loop-holds
-    sub-smaller
-    smaller-requires
-    add-end
-    block-requires
+    slice-read-id
+    cast-id
+    mul-if2
+    shared-slice-read-if2
+    reach-requires
     loop-less
     loop-again
+    add-i
+    loop-less-2
+    loop-again-2
     same-length
     same-length-2
+    same-length-3
     returns)

@@ -55,6 +55,7 @@ returns c =
       refl,
       see-holds (pre .0) (pre .1 .0) _ _ _ _ _ (pre .1 .1 .0) (pre .1 .1 .1)
           (measure .measure .ensures .0) (key .key-of .ensures) (put .put .ensures) (c .smaller .ensures),
+      refl,
     )
 
 pub see-spec : {M : Type 1} → statement M
