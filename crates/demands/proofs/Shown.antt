@@ -1,14 +1,18 @@
--- P1 to P4 and P9 of the entries themselves: what they return and write on document 01's examples. The whole list is `rules` Examples. Assumes nothing.
-use Prim.Native.Nat.{ℕ}
+-- P1 to P10 of the entries themselves: what they return and write on document 01's examples, by the list of `rules` Examples. Assumes nothing.
+use Prim.Native.Nat.{ℕ, _+_, _*_, _<_}
+use native.Mathlib.Omega.{arith}
 use mathlib.Core.Path.{_≡_, refl, sym, ap, _∙_}
 use mathlib.Core.List.{List, [], _∷_}
-use lib.ListN.{length, take}
+use lib.IntN.{ℤ}
+use lib.ListN.{length, getD, take}
 use Rattle.rules.specs.Outcome.{outcome}
 use Rattle.rules.specs.Entries as rules
 use Rattle.rules.specs.Entries.{Ask, tableAfter, countsOf}
-use Rattle.rules.specs.Examples.{three, low, high, asked, Gives}
+use Rattle.rules.specs.Points.{apart}
+use Rattle.rules.specs.Examples.{three, tied, four, extreme, twins, low, high, labelIn, asked, Gives}
 use Rattle.rules.proofs.Examples.{examples}
 use Rattle.laws.proofs.Refusals.{after-new}
+use Rattle.laws.proofs.Table.{table-at}
 use Rattle.search.specs.declared.Counts.{Counts}
 use Rattle.search.specs.declared.Searched.the-variants.{Done}
 use Rattle.demands.specs.Calls.{DistanceCall, BuildCall, SearchCall}
@@ -19,6 +23,29 @@ use Rattle.demands.proofs.Demand2.{searches-by-the-rules}
 pub p1-p2 : {table table′ : List ℕ} → BuildCall 3 1 three table 0 table′ → table′ ≡ 65535 ∷ 0 ∷ 48 ∷ 0 ∷ 65535 ∷ 0 ∷ 32 ∷ 0 ∷ 65535 ∷ []
 unfolding tableAfter
 p1-p2 h = h .table-holds ∙ after-new (sym (h .answers)) _ _ ∙ examples .p1-p2
+
+-- a built cell is the label that the examples speak of
+cell-at : {n d : ℕ} {vectors : List ℤ} {table table′ : List ℕ} → BuildCall n d vectors table 0 table′ → (u v : ℕ) → u < n → v < n
+    → getD table′ (u * n + v) 0 ≡ labelIn n d vectors u v
+unfolding tableAfter
+cell-at {n} {d} {vectors} h u v lu lv =
+    ap (λ (t : List ℕ). getD t (u * n + v) 0) (h .table-holds ∙ after-new (sym (h .answers)) _ _) ∙ table-at (apart d vectors) n u v lu lv
+
+-- P5: equal distances do not stand between
+pub p5 : {table table′ : List ℕ} → BuildCall 3 2 tied table 0 table′ → (getD table′ 1 0 ≡ 0) × (getD table′ 2 0 ≡ 0)
+p5 h = (cell-at h 0 1 (omega arith) (omega arith) ∙ examples .p5 .0, cell-at h 0 2 (omega arith) (omega arith) ∙ examples .p5 .1)
+
+-- P6 and P7: from 0 to 2 it is 45, from 0 to 3 it is 0
+pub p6-p7 : {table table′ : List ℕ} → BuildCall 4 2 four table 0 table′ → (getD table′ 2 0 ≡ 45) × (getD table′ 3 0 ≡ 0)
+p6-p7 h = (cell-at h 0 2 (omega arith) (omega arith) ∙ examples .p6, cell-at h 0 3 (omega arith) (omega arith) ∙ examples .p7 .0)
+
+-- P8: the largest label
+pub p8 : {table table′ : List ℕ} → BuildCall 3 64 extreme table 0 table′ → getD table′ 1 0 ≡ 32624
+p8 h = cell-at h 0 1 (omega arith) (omega arith) ∙ examples .p8
+
+-- P10: two identical points
+pub p10 : {table table′ : List ℕ} → BuildCall 2 1 twins table 0 table′ → (getD table′ 1 0 ≡ 0) × (getD table′ 2 0 ≡ 0)
+p10 h = (cell-at h 0 1 (omega arith) (omega arith) ∙ examples .p10 .0, cell-at h 1 0 (omega arith) (omega arith) ∙ examples .p10 .1)
 
 -- what a search returns and writes where the rules say what it gives
 pub record Shows (c : Counts) (found seen walked : ℕ) (ids distances trail ids′ distances′ trail′ : List ℕ) : Type 0 where
