@@ -7,28 +7,21 @@ use Rattle.space.proofs.Measured.{point-ok}
 use borrow.Author.Needs.{needs}
 use Rattle.cabi.proofs.sets.magpiehinge_point.Statement.{statement}
 use Rattle.cabi.proofs.sets.magpiehinge_point.Tie as tie
-use Rattle.cabi.proofs.sets.magpiehinge_point.Reads as reads
-use Rattle.cabi.proofs.sets.magpiehinge_point.Lts as lts
-use Rattle.space.proofs.point_refusal.Reads as point-refusal-reads
 
--- src/sets.rt:24:9
 point-refusal-requires : tie.Need-point-refusal-requires
 point-refusal-requires c κs = search needs
 
--- src/sets.rt:26:18
 mul-start : tie.Need-mul-start
 mul-start c =
     let ok = point-ok _ _ _ _ (sym (c .before .point-refusal .ensures) ∙ c .if1 .taken) in
     omega (arith, mul-le-mul (le-of-lt (ok .1)) (ok .0 .few-coordinates), mul-le-mul (ok .0 .few-points) (ok .0 .few-coordinates))
 
--- src/sets.rt:11:1
 returns : tie.Need-returns
 returns c =
     let e = c .before .point-refusal .ensures in
     let z = sym e ∙ c .if1 .taken in
     (e, (sym (after-new z _ _), sym (after-new z _ _)))
 
--- src/sets.rt:11:1
 returns-2 : tie.Need-returns-2
 returns-2 c =
     let e = c .before .point-refusal .ensures in

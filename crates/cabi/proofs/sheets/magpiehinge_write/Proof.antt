@@ -5,41 +5,35 @@ use Rattle.cabi.proofs.Cells.{number, cell}
 use borrow.Author.Needs.{needs}
 use Rattle.cabi.proofs.sheets.magpiehinge_write.Statement.{statement}
 use Rattle.cabi.proofs.sheets.magpiehinge_write.Tie as tie
-use Rattle.cabi.proofs.sheets.magpiehinge_write.Reads as reads
-use Rattle.cabi.proofs.sheets.magpiehinge_write.Lts as lts
-use Rattle.sheet.proofs.write.Reads as write-reads
 
--- src/sheets.rt:30:9
 write-requires : tie.Need-write-requires
 write-requires c κs = search needs
 
--- src/sheets.rt:32:26
 enum-known-answer : tie.Need-enum-known-answer
 enum-known-answer c = search needs
 
--- src/sheets.rt:33:25
 enum-known-answer-2 : tie.Need-enum-known-answer-2
 enum-known-answer-2 c = search needs
 
--- src/sheets.rt:14:1
 same-length : tie.Need-same-length
 same-length c = search needs
 
--- src/sheets.rt:14:1
 returns : tie.Need-returns
 returns c =
-    let o = ap writeTold (sym (c .before .answer .given .1)) ∙ c .before .before .before .before .before .write .ensures .0 in
-    (number o, (c .before .before .before .before .before .write .ensures .1, cell (λ x. x) (c .before .before .before .before .before .before .before .before .before .args .written .now) o))
+    let e = c .before .before .before .before .before .write .ensures in
+    let s = c .before .before .before .before .before .before .before .before .before .args in
+    let o = ap writeTold (sym (c .before .answer .given .1)) ∙ e .0 in
+    (number o, (e .1, cell (λ x. x) (s .written .now) o))
 
--- src/sheets.rt:14:1
 same-length-2 : tie.Need-same-length-2
 same-length-2 c = search needs
 
--- src/sheets.rt:14:1
 returns-2 : tie.Need-returns-2
 returns-2 c =
-    let o = ap writeTold (sym (c .before .answer2 .given .1)) ∙ c .before .before .before .before .before .write .ensures .0 in
-    (number o, (c .before .before .before .before .before .write .ensures .1, cell (λ x. x) (c .before .before .before .before .before .before .before .before .before .args .written .now) o))
+    let e = c .before .before .before .before .before .write .ensures in
+    let s = c .before .before .before .before .before .before .before .before .before .args in
+    let o = ap writeTold (sym (c .before .answer2 .given .1)) ∙ e .0 in
+    (number o, (e .1, cell (λ x. x) (s .written .now) o))
 
 pub magpiehinge-write-spec : {M : Type 1} → statement M
 magpiehinge-write-spec =

@@ -7,43 +7,39 @@ use Rattle.cabi.proofs.Cells.{number, cell}
 use borrow.Author.Needs.{needs}
 use Rattle.cabi.proofs.walks.magpiehinge_step.Statement.{statement}
 use Rattle.cabi.proofs.walks.magpiehinge_step.Tie as tie
-use Rattle.cabi.proofs.walks.magpiehinge_step.Reads as reads
-use Rattle.cabi.proofs.walks.magpiehinge_step.Lts as lts
-use Rattle.walk.proofs.step_at.Reads as step-at-reads
 
--- src/walks.rt:28:9
 step-at-requires : tie.Need-step-at-requires
 step-at-requires c κs = search needs
 
--- src/walks.rt:33:25
 enum-known-answer : tie.Need-enum-known-answer
 enum-known-answer c = search needs
 
--- src/walks.rt:35:13
 enum-told : tie.Need-enum-told
 enum-told c = search needs
 
--- src/walks.rt:39:13
 enum-told-2 : tie.Need-enum-told-2
 enum-told-2 c = search needs
 
--- src/walks.rt:11:1
 returns : tie.Need-returns
 returns c =
-    let o = ap told (sym (c .before .answer .given .1)) ∙ c .before .before .before .step-at .ensures .0 in
-    (number o, (ap (λ (w : Walk). w .current) (c .before .before .before .step-at .ensures .1), (ap (λ (w : Walk). w .moves) (c .before .before .before .step-at .ensures .1), cell movedBit (c .before .before .before .before .before .before .before .args .moved .now) o)))
+    let e = c .before .before .before .step-at .ensures in
+    let s = c .before .before .before .before .before .before .before .args in
+    let o = ap told (sym (c .before .answer .given .1)) ∙ e .0 in
+    (number o, (ap (λ (w : Walk). w .current) (e .1), (ap (λ (w : Walk). w .moves) (e .1), cell movedBit (s .moved .now) o)))
 
--- src/walks.rt:11:1
 returns-2 : tie.Need-returns-2
 returns-2 c =
-    let o = ap told (sym (c .enum-told .given .1)) ∙ c .before .before .step-at .ensures .0 in
-    (number o, (ap (λ (w : Walk). w .current) (c .before .before .step-at .ensures .1), (ap (λ (w : Walk). w .moves) (c .before .before .step-at .ensures .1), cell movedBit (c .before .before .before .before .before .before .args .moved .now) o)))
+    let e = c .before .before .step-at .ensures in
+    let s = c .before .before .before .before .before .before .args in
+    let o = ap told (sym (c .enum-told .given .1)) ∙ e .0 in
+    (number o, (ap (λ (w : Walk). w .current) (e .1), (ap (λ (w : Walk). w .moves) (e .1), cell movedBit (s .moved .now) o)))
 
--- src/walks.rt:11:1
 returns-3 : tie.Need-returns-3
 returns-3 c =
-    let o = ap told (sym (c .enum-told2 .given .1)) ∙ c .before .before .step-at .ensures .0 in
-    (number o, (ap (λ (w : Walk). w .current) (c .before .before .step-at .ensures .1), (ap (λ (w : Walk). w .moves) (c .before .before .step-at .ensures .1), cell movedBit (c .before .before .before .before .before .before .args .moved .now) o)))
+    let e = c .before .before .step-at .ensures in
+    let s = c .before .before .before .before .before .before .args in
+    let o = ap told (sym (c .enum-told2 .given .1)) ∙ e .0 in
+    (number o, (ap (λ (w : Walk). w .current) (e .1), (ap (λ (w : Walk). w .moves) (e .1), cell movedBit (s .moved .now) o)))
 
 pub magpiehinge-step-spec : {M : Type 1} → statement M
 magpiehinge-step-spec =
