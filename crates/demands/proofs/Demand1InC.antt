@@ -6,7 +6,7 @@ use mathlib.Core.Logic.{_≢_}
 use mathlib.Core.List.{List}
 use lib.IntN.{ℤ}
 use lib.ListN.{length}
-use Rattle.rules.specs.Outcome.{Outcome, outcome, after}
+use Rattle.rules.specs.Outcome.{outcome}
 use Rattle.rules.specs.Walk.{Walk}
 use Rattle.rules.specs.Sheet.{Contents}
 use Rattle.rules.specs.Refusals.{pointRefusal, walkRefusal, sheetRefusal, oneAskRefusal}

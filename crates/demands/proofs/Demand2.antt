@@ -1,23 +1,21 @@
 -- Demand 2, of what the entries return and write. Assumes nothing.
-use Prim.Native.Nat.{ℕ, zero, suc, _*_, _≤_, _<_}
+use Prim.Native.Nat.{ℕ, suc, _≤_, _<_}
 use native.Mathlib.Omega.{arith}
 use mathlib.Core.Path.{_≡_, refl, sym, ap, _∙_, subst}
-use mathlib.Core.Logic.{_≢_}
-use mathlib.Core.Bool.{Bool, true, false}
+use mathlib.Core.Bool.{Bool}
 use mathlib.Core.Option.{Option, none, some}
 use mathlib.Core.List.{List}
 use lib.IntN.{ℤ}
 use lib.ListN.{length, take}
-use Rattle.rules.specs.Outcome.{Outcome, gives, over}
+use Rattle.rules.specs.Outcome.{over}
 use Rattle.rules.specs.Points.{coordinates, apart, away}
 use Rattle.rules.specs.Bits.{Bytes}
 use Rattle.rules.specs.Sheet.{Contents, sheet, vectorsOf, askNumbers, askQuery}
 use Rattle.rules.specs.Edges.{DirectRule, Closing}
 use Rattle.rules.specs.Labels.{tableOf, edgeIn}
-use Rattle.rules.specs.Walk.{Walk, Step, moved, atEnd, stepped, stepFrom}
+use Rattle.rules.specs.Walk.{Walk, moved, atEnd, stepped, stepFrom}
 use Rattle.rules.specs.Entries as rules
-use Rattle.rules.specs.Entries.{Ask, tableAfter, goesTo, stepRefused, stepAnswer, recordAfter, endOf, headerAnswer, vectorsAfter, numbersOf, askAnswer, queryAfter}
-use Rattle.rules.specs.Refusals.{buildRefusal}
+use Rattle.rules.specs.Entries.{Ask, tableAfter, goesTo, stepAnswer, recordAfter, endOf, headerAnswer, vectorsAfter, numbersOf, askAnswer, queryAfter}
 use Rattle.laws.proofs.Refusals.{after-new, outcome-none, outcome-value, else-both, set-ok}
 use Rattle.laws.proofs.RefusalOrder.{build-order}
 use Rattle.laws.proofs.Edges.{direct-one}

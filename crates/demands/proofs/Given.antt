@@ -8,11 +8,11 @@ use lib.ListN.{length, getD, take, drop, length-map, List·getD-append}
 use lib.Seq.{take-at}
 use Rattle.rules.specs.Outcome.{over}
 use Rattle.rules.specs.Order.{count}
-use Rattle.rules.specs.Search.{State, answer}
+use Rattle.rules.specs.Search.{answer}
 use Rattle.rules.specs.Sheet.{Contents, sheet}
 use Rattle.rules.specs.Refusals.{walkRefusal}
 use Rattle.rules.specs.Entries as rules
-use Rattle.rules.specs.Entries.{Ask, farness, orderOf, searched, nearIds, nearDistances, countsOf, askedRefusal, refusalOf, searchAnswer, idsAfter, distancesAfter, trailAfter, endOf, walkAnswer, writeRefused, writeAnswer, outputAfter}
+use Rattle.rules.specs.Entries.{Ask, farness, orderOf, searched, nearIds, nearDistances, countsOf, askedRefusal, refusalOf, searchAnswer, idsAfter, distancesAfter, trailAfter, endOf, walkAnswer, writeAnswer, outputAfter}
 use Rattle.laws.proofs.Line.{getD-map}
 use Rattle.laws.proofs.Refusals.{after-new, outcome-none, outcome-value}
 use Rattle.search.specs.declared.Counts.{Counts}

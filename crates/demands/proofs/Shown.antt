@@ -1,11 +1,10 @@
 -- P1 to P10 of the entries themselves: what they return and write on document 01's examples, by the list of `rules` Examples. Assumes nothing.
 use Prim.Native.Nat.{ℕ, _+_, _*_, _<_}
 use native.Mathlib.Omega.{arith}
-use mathlib.Core.Path.{_≡_, refl, sym, ap, _∙_}
+use mathlib.Core.Path.{_≡_, sym, ap, _∙_}
 use mathlib.Core.List.{List, [], _∷_}
 use lib.IntN.{ℤ}
-use lib.ListN.{length, getD, take}
-use Rattle.rules.specs.Outcome.{outcome}
+use lib.ListN.{getD, take}
 use Rattle.rules.specs.Entries as rules
 use Rattle.rules.specs.Entries.{Ask, tableAfter, countsOf}
 use Rattle.rules.specs.Points.{apart}
@@ -16,7 +15,6 @@ use Rattle.laws.proofs.Table.{table-at}
 use Rattle.search.specs.declared.Counts.{Counts}
 use Rattle.search.specs.declared.Searched.the-variants.{Done}
 use Rattle.demands.specs.Calls.{DistanceCall, BuildCall, SearchCall}
-use Rattle.demands.specs.Demand2.{Searches}
 use Rattle.demands.proofs.Demand2.{searches-by-the-rules}
 
 -- P1 and P2: the builder's table of 0, 3, 5

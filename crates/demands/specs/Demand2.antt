@@ -11,8 +11,6 @@ use lib.IntN.{ℤ}
 use lib.ListN.{length, getD, take}
 use Rattle.rules.specs.Points.{apart, away}
 use Rattle.rules.specs.Order.{count}
-use Rattle.rules.specs.Search.{State}
-use Rattle.rules.specs.Walk.{Walk}
 use Rattle.rules.specs.Entries.{Ask, searched, nearIds, nearDistances, ending}
 use Rattle.laws.specs.Labelled.{LabelBy}
 use Rattle.search.specs.declared.Counts.{Counts}

@@ -7,7 +7,7 @@ use mathlib.Core.Path.{_≡_}
 use mathlib.Core.Logic.{_⊎_}
 use mathlib.Core.Bool.{true}
 use mathlib.Core.List.{List, _++_, map}
-use lib.ListN.{length, getD, take}
+use lib.ListN.{getD, take}
 use Rattle.rules.specs.Order.{Nearest, firsts}
 use Rattle.rules.specs.Entries.{Ask, ask, farness, orderOf}
 use Rattle.search.specs.declared.Counts.{Counts}

@@ -4,7 +4,7 @@ use mathlib.Core.Path.{_≡_}
 use mathlib.Core.Bool.{Bool}
 use mathlib.Core.List.{List}
 use lib.IntN.{ℤ}
-use lib.ListN.{length, take, replicate}
+use lib.ListN.{take, replicate}
 use Rattle.rules.specs.Points.{dist}
 use Rattle.rules.specs.Labels.{labelOf}
 use Rattle.rules.specs.Sheet.{fieldAt}
