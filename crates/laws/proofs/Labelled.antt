@@ -5,12 +5,11 @@ use native.Mathlib.Omega.{arith}
 use mathlib.Core.Path.{_≡_, sym, ap, _∙_}
 use mathlib.Core.Logic.{_≢_, ⊎-elim}
 use mathlib.Core.Bool.{Bool, true, false}
-use Rattle.rules.specs.Order.{first}
-use Rattle.rules.specs.Edges.{between, DirectRule, direct, Symmetric}
-use Rattle.rules.specs.Labels.{leads, label, labelOf}
+use Rattle.rules.specs.Edges.{between, DirectRule, Symmetric}
+use Rattle.rules.specs.Labels.{leads, label}
 use Rattle.laws.specs.Labelled.{Among, LabelBy}
 use Rattle.laws.proofs.Order.{first-none, first-some, first-cases}
-use Rattle.laws.proofs.Edges.{rule-hidden, between-is, direct-rule, direct-one}
+use Rattle.laws.proofs.Edges.{rule-hidden, between-is, direct-one}
 use Rattle.laws.proofs.Labels.{label-passes, label-most}
 use Rattle.laws.proofs.Table.{leads-is, label-some}
 

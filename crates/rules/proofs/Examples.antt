@@ -1,7 +1,7 @@
 -- P1 to P10, and the program's example of document 01, computed from the definitions. Assumes nothing.
 use Prim.Native.Nat.{ℕ}
 use mathlib.Core.Path.{_≡_, refl}
-use mathlib.Core.List.{List, [], _∷_, _++_}
+use mathlib.Core.List.{List, [], _∷_}
 use lib.IntN.{pos}
 use Rattle.rules.specs.Points.{dist, coordinates, apart, away}
 use Rattle.rules.specs.Order.{keyed, count, any, without, on, pick, first, firsts}

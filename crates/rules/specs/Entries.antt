@@ -1,9 +1,9 @@
 -- Document 01, "What each stated result has to fix": "Every public function states its result for all input, refusals too, and every lent cell and record
 -- afterwards." Here is what each entry answers, and what it leaves in each lent buffer and record: the rules over lent input, refusals first.
-use Prim.Native.Nat.{ℕ, zero, suc}
-use mathlib.Core.Bool.{Bool, true, false}
+use Prim.Native.Nat.{ℕ}
+use mathlib.Core.Bool.{Bool}
 use mathlib.Core.Option.{Option}
-use mathlib.Core.List.{List, [], _∷_, map}
+use mathlib.Core.List.{List, [], map}
 use lib.Dec.{eqb}
 use lib.IntN.{ℤ}
 use lib.ListN.{length, getD}

@@ -8,8 +8,7 @@ use lib.ListN.{replicate}
 use Rattle.rules.specs.Points.{dist, apart}
 use Rattle.rules.specs.Edges.{between, direct}
 use Rattle.rules.specs.Labels.{cell, tableOf}
-use Rattle.rules.specs.Search.{State}
-use Rattle.rules.specs.Entries.{Counts, Ask, ask, searched, nearIds, nearDistances, countsOf}
+use Rattle.rules.specs.Entries.{Ask, ask, searched, nearIds, nearDistances, countsOf}
 
 -- ---- the sets
 

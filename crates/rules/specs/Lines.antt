@@ -2,10 +2,9 @@
 -- decimal, one space between parts, a newline after each line. The fixed words of a line stand as bytes in the library."
 -- Bytes are those of ASCII: a space is 32, a newline 10, the digit 0 is 48.
 use Prim.Native.Nat.{ℕ, zero, suc, _+_, _/_, _%_}
-use mathlib.Core.Bool.{Bool, true, false}
+use mathlib.Core.Bool.{true, false}
 use mathlib.Core.List.{List, [], _∷_, _++_}
 use lib.Dec.{ltb}
-use lib.ListN.{length}
 
 -- a number in decimal digits, at most one more than the fuel
 unfoldable pub decimalIn : ℕ → ℕ → List ℕ

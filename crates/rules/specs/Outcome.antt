@@ -2,7 +2,7 @@
 -- "Search": "Cells past found, or past walked in the trail, keep what they held."
 -- A refusal number of 0 stands for none.
 use Prim.Native.Nat.{ℕ, zero, suc}
-use mathlib.Core.Bool.{Bool, true, false, cond}
+use mathlib.Core.Bool.{Bool, cond}
 use mathlib.Core.List.{List, [], _∷_, _++_}
 use lib.ListN.{length, drop}
 

@@ -2,14 +2,12 @@
 -- on the set's own table; a refused one gives only its `ask` line. A refused sheet gives one line, `refused` and the number."
 use Prim.Native.Nat.{ℕ, zero, suc}
 use mathlib.Core.List.{List, [], _++_}
-use lib.ListN.{length, getD}
-use Rattle.rules.specs.Outcome.{Outcome, refused, gives, outcome}
+use lib.ListN.{getD}
 use Rattle.rules.specs.Points.{apart}
 use Rattle.rules.specs.Labels.{tableOf}
-use Rattle.rules.specs.Search.{State}
 use Rattle.rules.specs.Sheet.{points, coords, askCount, vectorsOf, askNumbers, askQuery}
 use Rattle.rules.specs.Refusals.{sheetRefusal}
-use Rattle.rules.specs.Entries.{Counts, Ask, ask, searched, nearIds, nearDistances, countsOf, askedRefusal}
+use Rattle.rules.specs.Entries.{Ask, ask, searched, nearIds, nearDistances, countsOf, askedRefusal}
 use Rattle.rules.specs.Lines.{setLine, foundLine, askRefusedLine, nearLine, trailLine, refusedLine}
 
 -- ask i of a sheet, on a given table

@@ -6,12 +6,12 @@ use mathlib.Core.Path.{_≡_, refl, sym, _∙_}
 use mathlib.Core.Logic.{_⊎_, inl, inr, ⊎-elim}
 use mathlib.Core.Bool.{Bool, true, false}
 use mathlib.Core.List.{List}
-use lib.Dec.{leb, eqb}
+use lib.Dec.{eqb}
 use lib.ListN.{length, getD, set, length-set}
 use lib.Seq.{getD-set-same, getD-set-other}
 use borrow.Author.Tests.{eqb-true, eqb-false, eq-eqb, le-leb, lt-leb}
 use Rattle.laws.proofs.Tests.{both, le-or-lt, and-false}
-use Rattle.search.specs.Rest.{Rest, reached, Reached}
+use Rattle.search.specs.Rest.{Rest, Reached}
 use Rattle.search.specs.Seen.{markedAt, Marked}
 
 -- where the cells of the first i ids of the list are above the threshold: each flag is as it was, or that of an id that was not seen and has an edge

@@ -1,6 +1,6 @@
 -- A visit: the flags stand for a state of the search, and a visit changes both alike. Assumes nothing.
 use Prim.Native.Nat.{ℕ, _+_, _-_, _*_, _≤_, _<_}
-use native.Mathlib.Nat.{lt-irrefl, mul-le-mul-right}
+use native.Mathlib.Nat.{mul-le-mul-right}
 use native.Mathlib.Omega.{arith}
 use mathlib.Core.Path.{_≡_, refl, sym, ap, _∙_}
 use mathlib.Core.Logic.{⊎-elim}
@@ -10,9 +10,9 @@ use lib.Dec.{leb, eqb}
 use lib.ListN.{length, getD, set, take, drop, length-set}
 use lib.Seq.{getD-take, getD-drop, getD-set-same, getD-set-other}
 use borrow.Author.Tests.{eqb-true, eq-eqb, ne-eqb, eqb-false}
-use Rattle.rules.specs.Order.{on, count}
+use Rattle.rules.specs.Order.{on}
 use Rattle.rules.specs.Search.{State, waiting, visit}
-use Rattle.laws.proofs.Tests.{both, never, le-or-lt, and-false, or-r, or-false, count-lt, count-same}
+use Rattle.laws.proofs.Tests.{both, le-or-lt, and-false, or-r, or-false, count-same}
 use Rattle.laws.proofs.Order.{firsts-same}
 use Rattle.laws.proofs.Search.{on-snoc}
 use Rattle.laws.proofs.Refusals.{small-square}

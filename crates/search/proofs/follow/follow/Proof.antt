@@ -1,5 +1,5 @@
 -- `search::follow::follow` meets its contract: what the list has not passed may yet be reached. Assumes nothing.
-use Prim.Native.Nat.{_-_, _≤_, _<_}
+use Prim.Native.Nat.{_-_, _<_}
 use native.Mathlib.Omega.{arith}
 use lib.ListN.{length, getD}
 use Rattle.search.specs.Seen.{Lined, keyOf}
