@@ -7,6 +7,7 @@ pub mod Edges
 pub mod Labels
 pub mod Insert
 pub mod Line
+pub mod Visits
 pub mod Search
 pub mod Whole
 pub mod Demand3

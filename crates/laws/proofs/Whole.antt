@@ -13,7 +13,8 @@ use Rattle.rules.specs.Search.{State, waiting, start, before, visit, next, sear
 use Rattle.rules.specs.Edges.{Closing, Symmetric}
 use Rattle.laws.proofs.Tests.{both, and-i, and-false, or-l, or-r, or-cases, count-lt}
 use Rattle.laws.proofs.Order.{first-none, first-some, firsts-same}
-use Rattle.laws.proofs.Search.{on-snoc, stops, run-keeps, run-goes-on, search-stops}
+use Rattle.laws.proofs.Visits.{on-snoc, stops}
+use Rattle.laws.proofs.Search.{run-keeps, run-goes-on, search-stops}
 
 module _ (edge : ℕ → ℕ → Bool) where
   -- the edges from each id on the trail have been followed

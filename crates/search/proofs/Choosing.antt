@@ -12,7 +12,7 @@ use Rattle.rules.specs.Order.{keyed, first, Ordered}
 use Rattle.rules.specs.Search.{before, choice}
 use Rattle.laws.proofs.Keyed.{keyed-ordered}
 use Rattle.laws.proofs.Line.{Whole, line-whole, place-before, first-on, none-on}
-use Rattle.laws.proofs.Search.{choice-none, choice-some}
+use Rattle.laws.proofs.Visits.{choice-none, choice-some}
 use Rattle.search.specs.Line.{waits, sees}
 use Rattle.search.specs.Seen.{Lined}
 use Rattle.search.proofs.Seeing.{inLine, line-size, line-id}

@@ -17,7 +17,8 @@ use Rattle.rules.specs.Labels.{edgeIn}
 use Rattle.rules.specs.Search.{State, start, waiting, visit, next, choice, run, search}
 use Rattle.laws.proofs.Tests.{and-l, and-r, and-i, count-le, count-same, le-or-lt, never}
 use Rattle.laws.proofs.Order.{first-some, firsts-same}
-use Rattle.laws.proofs.Search.{waits-seen, choice-same, visits, visits-room, run-next, run-done, run-sound}
+use Rattle.laws.proofs.Visits.{waits-seen, choice-same, visits}
+use Rattle.laws.proofs.Search.{visits-room, run-next, run-done, run-sound}
 use Rattle.search.specs.Line.{waits, sees}
 use Rattle.search.specs.Seen.{Lined, Visited, goesOn, soughtBy, Explored}
 use Rattle.search.proofs.Seeing.{line-size, line-seen, line-id}

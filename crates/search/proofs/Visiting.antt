@@ -14,7 +14,7 @@ use Rattle.rules.specs.Order.{on}
 use Rattle.rules.specs.Search.{State, waiting, visit}
 use Rattle.laws.proofs.Tests.{both, le-or-lt, and-false, or-r, or-false, count-same}
 use Rattle.laws.proofs.Order.{firsts-same}
-use Rattle.laws.proofs.Search.{on-snoc}
+use Rattle.laws.proofs.Visits.{on-snoc}
 use Rattle.laws.proofs.Refusals.{small-square}
 use Rattle.search.specs.Line.{waits, sees, Opened}
 use Rattle.search.specs.Seen.{Lined, markedAt, Marked, Visited}
