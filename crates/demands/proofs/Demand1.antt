@@ -30,7 +30,7 @@ use Rattle.sheet.specs.declared.Asked.the-variants as asked
 use Rattle.sheet.specs.Answers.{writeTold, headTold, askTold}
 use Rattle.sheet.proofs.Told.{write-told, head-told, ask-told}
 use Rattle.demands.specs.Calls.{PointCall, PointRefusalCall, BuildCall, SearchCall, StepCall, WalkCall, WriteCall, HeaderCall, VectorsCall, AskCall}
-use Rattle.demands.specs.Demand1.{Numbers, Refuses}
+use Rattle.demands.specs.Demand1.{AnswersNumber, Refuses}
 
 -- an answer that says what its order and its values give is a refusal exactly where the order gives a number; `told` says it in the rules' terms and loses nothing
 module _ {Answer A : Type 0} (told : Answer → Outcome A) (refusal : ℕ → Answer) where
@@ -54,13 +54,13 @@ module _ {Answer A : Type 0} (told : Answer → Outcome A) (refusal : ℕ → An
 pub point-refuses : {n d id number : ℕ} {vectors part : List ℤ}
     → PointCall n d vectors id part
     → PointRefusalCall n d vectors id number
-    → Numbers number (pointRefusal n d (length vectors) id) (part ≡ [])
+    → AnswersNumber number (pointRefusal n d (length vectors) id) (part ≡ [])
 unfolding pointOf
 point-refuses h r = record { number-is = r .answers; unchanged = λ z. h .hands ∙ after-old z _ _ }
 
 pub build-refuses : {n d number : ℕ} {vectors : List ℤ} {table table′ : List ℕ}
     → BuildCall n d vectors table number table′
-    → Numbers number (buildRefusal n d (length vectors) (length table)) (table′ ≡ table)
+    → AnswersNumber number (buildRefusal n d (length vectors) (length table)) (table′ ≡ table)
 unfolding tableAfter
 build-refuses h = record { number-is = h .answers; unchanged = λ z. h .table-holds ∙ after-old z _ _ }
 
@@ -104,7 +104,7 @@ header-refuses h = refuses headTold headed.Refused (λ x. refl) head-told _ _ _ 
 
 pub vectors-refuses : {ys : List ℕ} {buffer buffer′ : List ℤ} {number : ℕ}
     → VectorsCall ys buffer number buffer′
-    → Numbers number (vectorsRefusal ys (length buffer)) (buffer′ ≡ buffer)
+    → AnswersNumber number (vectorsRefusal ys (length buffer)) (buffer′ ≡ buffer)
 unfolding vectorsAfter
 vectors-refuses h = record { number-is = h .answers; unchanged = λ z. h .buffer-holds ∙ after-old z _ _ }
 

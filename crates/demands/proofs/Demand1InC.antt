@@ -14,7 +14,7 @@ use Rattle.rules.specs.Entries.{Ask, refusalOf, searchAnswer, idsAfter, distanc
 use Rattle.laws.proofs.Refusals.{after-old}
 use Rattle.cabi.specs.Plain.{numberOf, cellAfter}
 use Rattle.demands.specs.CallsInC.{PointInC, SearchInC, StepInC, WalkInC, WriteInC, HeaderInC, AskInC}
-use Rattle.demands.specs.Demand1.{Numbers}
+use Rattle.demands.specs.Demand1.{AnswersNumber}
 
 module _ {A : Type 0} where
   -- the number of an answer is the order's
@@ -31,13 +31,13 @@ module _ {A : Type 0} where
 
 pub point-in-c-refuses : {n d id start count number start′ count′ : ℕ} {vectors : List ℤ}
     → PointInC n d vectors id start count number start′ count′
-    → Numbers number (pointRefusal n d (length vectors) id) ((start′ ≡ start) × (count′ ≡ count))
+    → AnswersNumber number (pointRefusal n d (length vectors) id) ((start′ ≡ start) × (count′ ≡ count))
 point-in-c-refuses h =
     record { number-is = h .answers; unchanged = λ z. (h .start-holds ∙ after-old z _ _, h .count-holds ∙ after-old z _ _) }
 
 pub search-in-c-refuses : {a : Ask} {ids distances trail ids′ distances′ trail′ : List ℕ} {found seen walked number found′ seen′ walked′ : ℕ}
     → SearchInC a ids distances trail found seen walked number ids′ distances′ trail′ found′ seen′ walked′
-    → Numbers number (refusalOf a ids distances trail) ((ids′ ≡ ids) × (distances′ ≡ distances) × (trail′ ≡ trail) × (found′ ≡ found) × (seen′ ≡ seen) × (walked′ ≡ walked))
+    → AnswersNumber number (refusalOf a ids distances trail) ((ids′ ≡ ids) × (distances′ ≡ distances) × (trail′ ≡ trail) × (found′ ≡ found) × (seen′ ≡ seen) × (walked′ ≡ walked))
 unfolding searchAnswer idsAfter distancesAfter trailAfter
 search-in-c-refuses h =
     record {
@@ -55,7 +55,7 @@ search-in-c-refuses h =
 module _ {n d threshold : ℕ} {vectors query : List ℤ} {table : List ℕ} where
   pub step-in-c-refuses : {w : Walk} {moved number current′ moves′ moved′ : ℕ}
       → StepInC n d vectors table query threshold w moved number current′ moves′ moved′
-      → Numbers number (stepRefused n d vectors table query threshold w) ((current′ ≡ w .current) × (moves′ ≡ w .moves) × (moved′ ≡ moved))
+      → AnswersNumber number (stepRefused n d vectors table query threshold w) ((current′ ≡ w .current) × (moves′ ≡ w .moves) × (moved′ ≡ moved))
   unfolding stepAnswer recordAfter
   step-in-c-refuses h =
       record {
@@ -69,7 +69,7 @@ module _ {n d threshold : ℕ} {vectors query : List ℤ} {table : List ℕ} whe
 
   pub walk-in-c-refuses : {start last distance moves number last′ distance′ moves′ : ℕ}
       → WalkInC n d vectors table query threshold start last distance moves number last′ distance′ moves′
-      → Numbers number (walkRefusal n d (length vectors) (length table) (length query) start threshold) ((last′ ≡ last) × (distance′ ≡ distance) × (moves′ ≡ moves))
+      → AnswersNumber number (walkRefusal n d (length vectors) (length table) (length query) start threshold) ((last′ ≡ last) × (distance′ ≡ distance) × (moves′ ≡ moves))
   unfolding walkAnswer
   walk-in-c-refuses h =
       record {
@@ -79,14 +79,14 @@ module _ {n d threshold : ℕ} {vectors query : List ℤ} {table : List ℕ} whe
 
 pub write-in-c-refuses : {k : Contents} {output output′ : List ℕ} {written number written′ : ℕ}
     → WriteInC k output written number output′ written′
-    → Numbers number (writeRefused k output) ((output′ ≡ output) × (written′ ≡ written))
+    → AnswersNumber number (writeRefused k output) ((output′ ≡ output) × (written′ ≡ written))
 unfolding writeAnswer outputAfter
 write-in-c-refuses h =
     record { number-is = h .answers ∙ number-of _ _; unchanged = λ z. (h .output-holds ∙ after-old z _ _, h .written-holds ∙ cell-old _ z _ _ _) }
 
 pub header-in-c-refuses : {ys : List ℕ} {n d c asks number n′ d′ c′ asks′ : ℕ}
     → HeaderInC ys n d c asks number n′ d′ c′ asks′
-    → Numbers number (sheetRefusal ys) ((n′ ≡ n) × (d′ ≡ d) × (c′ ≡ c) × (asks′ ≡ asks))
+    → AnswersNumber number (sheetRefusal ys) ((n′ ≡ n) × (d′ ≡ d) × (c′ ≡ c) × (asks′ ≡ asks))
 unfolding headerAnswer
 header-in-c-refuses h =
     record {
@@ -101,7 +101,7 @@ header-in-c-refuses h =
 
 pub ask-in-c-refuses : {ys : List ℕ} {i start width k threshold number start′ width′ k′ threshold′ : ℕ} {query query′ : List ℤ}
     → AskInC ys i query start width k threshold number query′ start′ width′ k′ threshold′
-    → Numbers number (oneAskRefusal ys i (length query)) ((query′ ≡ query) × (start′ ≡ start) × (width′ ≡ width) × (k′ ≡ k) × (threshold′ ≡ threshold))
+    → AnswersNumber number (oneAskRefusal ys i (length query)) ((query′ ≡ query) × (start′ ≡ start) × (width′ ≡ width) × (k′ ≡ k) × (threshold′ ≡ threshold))
 unfolding askAnswer queryAfter
 ask-in-c-refuses h =
     record {

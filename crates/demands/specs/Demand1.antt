@@ -7,7 +7,7 @@ use mathlib.Core.Path.{_≡_}
 use mathlib.Core.Logic.{_≢_}
 
 -- an entry that answers its refusal number itself, 0 for none, where its order gives `given`
-pub record Numbers (number given : ℕ) (Unchanged : Type 0) : Type 0 where
+pub record AnswersNumber (number given : ℕ) (Unchanged : Type 0) : Type 0 where
   pub number-is : number ≡ given
   pub unchanged : given ≢ 0 → Unchanged
 
