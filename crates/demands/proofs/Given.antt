@@ -58,8 +58,8 @@ gave-search {a} {c} {ids} {distances} {trail} h =
     let is = sym (outcome-value (refusalOf a ids distances trail) _ _ (sym (h .answers))) in
     let ok = search-ok _ _ _ _ _ _ _ _ _ _ _ _ none in
     record {
-      few-points = ok .few-points;
-      start-in = ok .start-in;
+      few-points = ok .starts .asked .few-points;
+      start-in = ok .starts .start-in;
       found = ap (λ (k : rules.Counts). k .found) is;
       seen = ap (λ (k : rules.Counts). k .seen) is;
       walked = ap (λ (k : rules.Counts). k .walked) is;

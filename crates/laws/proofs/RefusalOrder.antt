@@ -1,6 +1,6 @@
 -- How an entry's order of refusals goes on from one that it shares: from that of a set, 1 to 3, and from that of a set, its table, a query and an id, 1 to 6.
 -- Assumes nothing.
-use Prim.Native.Nat.{ℕ, suc, _*_, _≤_, _<_}
+use Prim.Native.Nat.{ℕ, suc, _*_}
 use mathlib.Core.Path.{_≡_, refl, sym, _∙_}
 use mathlib.Core.Logic.{_≢_}
 use mathlib.Core.Bool.{Bool, true, false, cond}
@@ -10,6 +10,7 @@ use borrow.Author.Tests.{leb-false, eq-eqb, lt-leb}
 use Rattle.rules.specs.Outcome.{firstOf, orElse}
 use Rattle.rules.specs.Refusals.{outside, differ, setRefusal, pointRefusal, buildRefusal, startRefusal, searchRefusal, walkRefusal}
 use Rattle.rules.specs.Refusals.{refuse4, refuse5, refuse6, refuse7, refuse8, refuse9, refuse10}
+use Rattle.laws.specs.Lent.{StartOk}
 use Rattle.laws.proofs.Refusals.{else-none, else-some, else-both, skipped, alike, set-ok}
 
 -- ---- an entry that asks for a shared refusal first
@@ -75,14 +76,6 @@ search-order n d vectors table query start threshold width k ids distances trail
 
 -- ---- a set, its table, a query and an id to start from
 
--- what is known of them where they are not refused
-pub record StartOk (n d vectors table query start : ℕ) : Type 0 where
-  pub set-given : setRefusal n d vectors ≡ 0
-  pub few-points : n ≤ 128
-  pub table-is : table ≡ n * n
-  pub query-is : query ≡ d
-  pub start-in : start < n
-
 pub start-ok : (n d vectors table query start : ℕ) → startRefusal n d vectors table query start ≡ 0 → StartOk n d vectors table query start
 start-ok n d vectors table query start e =
     let both = else-both (setRefusal n d vectors) _ (sym (start-order n d vectors table query start) ∙ e) in
@@ -90,10 +83,12 @@ start-ok n d vectors table query start e =
     let five = skipped (differ query d) 4 _ (four .1) in
     let six = skipped (leb n start) 5 _ (five .1) in
     record {
-      set-given = both .0;
-      few-points = set-ok n d vectors (both .0) .few-points;
+      asked = record {
+        set-given = both .0;
+        few-points = set-ok n d vectors (both .0) .few-points;
+        query-is = alike query d (five .0);
+      };
       table-is = alike table (n * n) (four .0);
-      query-is = alike query d (five .0);
       start-in = leb-false n start (six .0);
     }
 
@@ -101,5 +96,5 @@ start-ok n d vectors table query start e =
 pub start-none : (n d vectors table query start : ℕ) → StartOk n d vectors table query start → startRefusal n d vectors table query start ≡ 0
 start-none n d vectors table query start ok =
     start-order n d vectors table query start
-    ∙ else-none (ok .set-given) _
-    ∙ rw (eq-eqb table (n * n) (ok .table-is), eq-eqb query d (ok .query-is), lt-leb n start (ok .start-in))
+    ∙ else-none (ok .asked .set-given) _
+    ∙ rw (eq-eqb table (n * n) (ok .table-is), eq-eqb query d (ok .asked .query-is), lt-leb n start (ok .start-in))

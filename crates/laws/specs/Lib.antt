@@ -3,3 +3,4 @@ pub mod Demand3
 pub mod Ends
 pub mod Line
 pub mod Labelled
+pub mod Lent

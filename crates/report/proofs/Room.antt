@@ -81,14 +81,14 @@ few a e =
     128
     128
     (same-refusal a ∙ e) in
-    let near = firsts-nearest (orderOf a) (a .n) (keyed-ordered (farness a) (a .n) (ok .few-points)) (a .k) (searched a .seen) in
+    let near = firsts-nearest (orderOf a) (a .n) (keyed-ordered (farness a) (a .n) (ok .starts .asked .few-points)) (a .k) (searched a .seen) in
     let sound = run-sound (a .n) (orderOf a) (edgesOf a) (a .width) (a .n) (eqb (a .start)) in
     record {
       near-few = omega (arith, near .many, ok .ids-room);
-      near-small = λ y o. omega (arith, near .each y o .0, ok .few-points);
-      seen-few = omega (arith, count-le (a .n) (searched a .seen), ok .few-points);
-      trail-few = omega (arith, sound .1, count-le (a .n) (on (searched a .trail)), ok .few-points);
-      trail-small = λ y o. omega (arith, sound .0 y o .0, ok .few-points);
+      near-small = λ y o. omega (arith, near .each y o .0, ok .starts .asked .few-points);
+      seen-few = omega (arith, count-le (a .n) (searched a .seen), ok .starts .asked .few-points);
+      trail-few = omega (arith, sound .1, count-le (a .n) (on (searched a .trail)), ok .starts .asked .few-points);
+      trail-small = λ y o. omega (arith, sound .0 y o .0, ok .starts .asked .few-points);
     }
 
 module _ (i : ℕ) (a : Ask) (h : i < 1000) (near : (y : ℕ) → farness a y < 10000000) where

@@ -1,5 +1,5 @@
 -- From the lent input to what the entry hands back: the facts of an ask that is not refused, and what is answered and left. Assumes nothing.
-use Prim.Native.Nat.{ℕ, _*_, _≤_, _<_, min}
+use Prim.Native.Nat.{ℕ, _≤_, min}
 use native.Mathlib.Omega.{arith}
 use mathlib.Core.Path.{_≡_, refl, sym, ap, _∙_}
 use mathlib.Core.Logic.{_≢_}
@@ -14,11 +14,12 @@ use Rattle.rules.specs.Points.{away}
 use Rattle.rules.specs.Order.{keyed, count, firsts}
 use Rattle.rules.specs.Labels.{edgeIn}
 use Rattle.rules.specs.Search.{State, search, answer}
-use Rattle.rules.specs.Refusals.{outside, setRefusal, startRefusal, searchRefusal}
+use Rattle.rules.specs.Refusals.{outside, startRefusal, searchRefusal}
 use Rattle.rules.specs.Entries.{Counts, Ask, ask, farness, orderOf, edgesOf, searched, nearIds, nearDistances, countsOf, askedRefusal, refusalOf}
 use Rattle.rules.specs.Entries.{searchAnswer, idsAfter, distancesAfter, trailAfter}
 use Rattle.laws.proofs.Tests.{or-off, or-off-r, count-le}
 use Rattle.laws.proofs.Refusals.{else-both, skipped, outcome-gives, outcome-refused, after-new, after-old}
+use Rattle.laws.specs.Lent.{StartOk}
 use Rattle.laws.proofs.RefusalOrder.{search-order, start-ok}
 use Rattle.search.specs.Line.{sees}
 use Rattle.search.specs.Seen.{keyOf, soughtBy, Explored}
@@ -28,11 +29,7 @@ use Rattle.search.proofs.OffLine.{found-is, ids-are, distances-are}
 -- ---- an ask that is not refused
 
 pub record SearchOk (n d vectors table query start threshold width k ids distances trail : ℕ) : Type 0 where
-  pub set-given : setRefusal n d vectors ≡ 0
-  pub few-points : n ≤ 128
-  pub table-is : table ≡ n * n
-  pub query-is : query ≡ d
-  pub start-in : start < n
+  pub starts : StartOk n d vectors table query start
   pub ids-room : k ≤ ids
   pub distances-room : k ≤ distances
   pub trail-room : n ≤ trail
@@ -43,18 +40,13 @@ pub search-ok : (n d vectors table query start threshold width k ids distances t
 search-ok n d vectors table query start threshold width k ids distances trail e =
     let order = search-order n d vectors table query start threshold width k ids distances trail in
     let both = else-both (startRefusal n d vectors table query start) _ (sym order ∙ e) in
-    let starts = start-ok n d vectors table query start (both .0) in
     let seven = skipped (outside 1 128 width) 6 _ (both .1) in
     let eight = skipped (outside 1 width k) 7 _ (seven .1) in
     let nine = skipped (ltb 32767 threshold) 8 _ (eight .1) in
     let ten = skipped _ 9 0 (nine .1) in
     let rest = or-off-r (ltb ids k) _ (ten .0) in
     record {
-      set-given = starts .set-given;
-      few-points = starts .few-points;
-      table-is = starts .table-is;
-      query-is = starts .query-is;
-      start-in = starts .start-in;
+      starts = start-ok n d vectors table query start (both .0);
       ids-room = ltb-false ids k (or-off (ltb ids k) _ (ten .0));
       distances-room = ltb-false distances k (or-off (ltb distances k) (ltb trail n) rest);
       trail-room = ltb-false trail n (or-off-r (ltb distances k) (ltb trail n) rest);
@@ -119,7 +111,7 @@ module _ (n d : ℕ) (vectors : List ℤ) (table : List ℕ) (query : List ℤ) 
   giving flags line′ ids′ distances′ trail′ found seen walked e only x f wi wd =
       let D : ℕ → ℕ = away d vectors query in
       let p : ℕ → Bool = searched a .seen in
-      let small : n ≤ 128 = search-ok n d _ _ _ start threshold width k _ _ _ e .few-points in
+      let small : n ≤ 128 = search-ok n d _ _ _ start threshold width k _ _ _ e .starts .asked .few-points in
       let s : soughtBy n (keyed D) table threshold width flags ≡ searched a = ap (search n (keyed D) (edgeIn table n threshold) width) only in
       let many : seen ≡ count n p = x .seen-is ∙ ap (λ (t : State). count n (t .seen)) s in
       let line-is : take seen line′ ≡ map (keyed D) (firsts (keyed D) n n p) =

@@ -15,14 +15,14 @@ use Rattle.rules.specs.Order.{keyed, firsts, Ordered}
 use Rattle.rules.specs.Points.{dist, away}
 use Rattle.rules.specs.Entries.{pointOf}
 use Rattle.laws.specs.Line.{adding, Place}
-use Rattle.laws.proofs.Refusals.{set-ok}
+use Rattle.laws.specs.Lent.{Askable}
 use Rattle.laws.proofs.Tests.{both, never, count-le, count-one, count-lt}
 use Rattle.laws.proofs.Order.{firsts-same}
 use Rattle.laws.proofs.Keyed.{keyed-ordered, keyed-id}
 use Rattle.laws.proofs.Line.{Whole, getD-map, listed, whole-rising, line-whole, line-length, line-insert}
 use Rattle.search.specs.Line.{sees, Slot, Put}
 use Rattle.space.proofs.Measured.{measured}
-use Rattle.search.specs.Seen.{Given, keyOf, Lined}
+use Rattle.search.specs.Seen.{keyOf, Lined}
 
 module _ (n : ℕ) (D : ℕ → ℕ) (small : n ≤ 128) where
   ordered : Ordered n (keyed D)
@@ -139,12 +139,23 @@ module _ (n : ℕ) (D : ℕ → ℕ) (small : n ≤ 128) where
           other : (i : ℕ) → i < seen → getD line i 0 % 128 ≡ id → ⊥
           other i l = another (getD line i 0 % 128) (rw (line-id i l) (line-seen i l .1))
 
+-- ---- room for what becomes seen
+
+module _ {n : ℕ} (small : n ≤ 128) {key : ℕ → ℕ} {flags line : List ℕ} {seen from : ℕ} (h : Lined n key flags line seen from) where
+  -- there is room in the line for one more
+  pub line-room : (id : ℕ) → id < n → getD flags id 0 ≡ 0 → seen < length line
+  line-room id l f = omega (arith, h .many, h .line-size, small, count-lt n (sees flags) id l (rw f))
+
+  -- an id of the set has a flag, and the seen ids have room in the line
+  pub flag-there : {id : ℕ} → id < n → id < length flags
+  flag-there l = omega (arith, h .flags-size, small)
+
+  pub line-holds : seen ≤ length line
+  line-holds = omega (arith, h .many, h .line-size, small, count-le n (sees flags))
+
 -- ---- as `see` has it
 
-module _ {n d : ℕ} {vectors query : List ℤ} (g : Given n d vectors query) where
-  pub given-small : n ≤ 128
-  given-small = set-ok n d (length vectors) (g .set-given) .few-points
-
+module _ {n d : ℕ} (vectors query : List ℤ) (g : Askable n d (length vectors) (length query)) where
   -- the key that `see` works out
   pub measured-key : (id m : ℕ) → id < n → m ≡ dist (take 64 (pointOf n d vectors id)) (take 64 query) → m * 128 + id ≡ keyOf d vectors query id
   unfolding keyed
@@ -154,21 +165,4 @@ module _ {n d : ℕ} {vectors query : List ℤ} (g : Given n d vectors query) wh
       id < n → getD flags id 0 ≡ 0 → m ≡ dist (take 64 (pointOf n d vectors id)) (take 64 query) → key ≡ m * 128 + id → Put line seen key r line′ →
       from′ ≡ min r from → Lined n (keyOf d vectors query) (set flags id 1) line′ (seen + 1) from′
   see-holds {line = line} {line′ = line′} {seen = seen} h id m key r from′ l f e q p w =
-      rw w (see-lined n (away d vectors query) given-small h id l f (subst (λ (k : ℕ). Put line seen k r line′) (q ∙ measured-key id m l e) p))
-
-  -- there is room in the line for one more
-  pub line-room : {flags line : List ℕ} {seen from : ℕ} → Lined n (keyOf d vectors query) flags line seen from → (id : ℕ) → id < n →
-      getD flags id 0 ≡ 0 → seen < length line
-  line-room {flags} h id l f =
-      omega (arith, h .many, h .line-size, given-small, count-lt n (sees flags) id l (rw f))
-
-  -- an id of the set has a flag, and the seen ids have room in the line
-  pub flag-there : {flags line : List ℕ} {seen from : ℕ}
-      → Lined n (keyOf d vectors query) flags line seen from
-      → {id : ℕ}
-      → id < n
-      → id < length flags
-  flag-there h l = omega (arith, h .flags-size, given-small)
-
-  pub line-holds : {flags line : List ℕ} {seen from : ℕ} → Lined n (keyOf d vectors query) flags line seen from → seen ≤ length line
-  line-holds {flags} h = omega (arith, h .many, h .line-size, given-small, count-le n (sees flags))
+      rw w (see-lined n (away d vectors query) (g .few-points) h id l f (subst (λ (k : ℕ). Put line seen k r line′) (q ∙ measured-key id m l e) p))

@@ -10,13 +10,7 @@ use Rattle.rules.specs.Points.{away}
 use Rattle.rules.specs.Order.{keyed, count, firsts}
 use Rattle.rules.specs.Labels.{edgeIn}
 use Rattle.rules.specs.Search.{State, search}
-use Rattle.rules.specs.Refusals.{setRefusal}
 use Rattle.search.specs.Line.{waits, sees}
-
--- a set that is not refused, and a query of its length
-pub record Given (n d : ℕ) (vectors query : List ℤ) : Type 0 where
-  pub set-given : setRefusal n d (length vectors) ≡ 0
-  pub query-is : length query ≡ d
 
 -- the order from the query
 abbrev pub keyOf : ℕ → List ℤ → List ℤ → ℕ → ℕ

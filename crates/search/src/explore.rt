@@ -6,9 +6,10 @@ ghost use mathlib.Core.Path.{_≡_};
 ghost use mathlib.Core.Bool.{true};
 ghost use Prim.Native.Nat.{ℕ, _*_, _<_, _≤_};
 ghost use lib.ListN.{length, getD};
+ghost use Rattle.laws.specs.Lent.{Askable};
 ghost use Rattle.search.specs.Line.{waits};
 ghost use Rattle.search.specs.Rest.{Rest};
-ghost use Rattle.search.specs.Seen.{Given, keyOf, Lined, Visited, goesOn, Explored};
+ghost use Rattle.search.specs.Seen.{keyOf, Lined, Visited, goesOn, Explored};
 
 // What an exploration has come to: how many points are seen, and how many are on the trail.
 pub(crate) struct Ways {
@@ -30,7 +31,7 @@ fn visit(
     line: &mut [u32],
     rest: &mut [u8],
 ) -> Front
-    requires given { ⌜ Given n d (now vectors) (now query) ⌝ }
+    requires given { ⌜ Askable n d (length (now vectors)) (length (now query)) ⌝ }
     requires lined { ⌜ Lined n (keyOf d (now vectors) (now query)) (now flags) (now line) (front .seen) (front .from) ⌝ }
     requires rest { ⌜ Rest n (now flags) (now rest) (front .left) ⌝ }
     requires table { ⌜ length (now table) ≡ n * n ⌝ }
@@ -89,7 +90,7 @@ pub(crate) fn explore(
     rest: &mut [u8],
     trail: &mut [u16],
 ) -> Ways
-    requires given { ⌜ Given n d (now vectors) (now query) ⌝ }
+    requires given { ⌜ Askable n d (length (now vectors)) (length (now query)) ⌝ }
     requires lined { ⌜ Lined n (keyOf d (now vectors) (now query)) (now flags) (now line) (start .seen) (start .from) ⌝ }
     requires rest { ⌜ Rest n (now flags) (now rest) (start .left) ⌝ }
     requires fresh { ⌜ ((y : ℕ) → getD (now flags) y 0 ≤ 1) ⌝ }

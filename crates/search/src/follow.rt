@@ -5,8 +5,9 @@ use crate::see::see;
 ghost use mathlib.Core.Path.{_≡_};
 ghost use Prim.Native.Nat.{_<_, _≤_};
 ghost use lib.ListN.{length};
+ghost use Rattle.laws.specs.Lent.{Askable};
 ghost use Rattle.search.specs.Rest.{Numbered, Rest, Reached};
-ghost use Rattle.search.specs.Seen.{Given, keyOf, Lined, Marked};
+ghost use Rattle.search.specs.Seen.{keyOf, Lined, Marked};
 
 // At first every id is on the list.
 pub(crate) fn list_all(n: usize, rest: &mut [u8])
@@ -32,7 +33,7 @@ fn reach(
     line: &mut [u32],
     rest: &mut [u8],
 ) -> Front
-    requires given { ⌜ Given n d (now vectors) (now query) ⌝ }
+    requires given { ⌜ Askable n d (length (now vectors)) (length (now query)) ⌝ }
     requires lined { ⌜ Lined n (keyOf d (now vectors) (now query)) (now flags) (now line) (front .seen) (front .from) ⌝ }
     requires rest { ⌜ Rest n (now flags) (now rest) (front .left) × (i < front .left) ⌝ }
     ensures { λ r. ⌜ Reached n (now (flags .entry)) (now (rest .entry)) i (front .left) (now (flags .exit)) (now (rest .exit)) (r .left)
@@ -65,7 +66,7 @@ pub(crate) fn follow(
     line: &mut [u32],
     rest: &mut [u8],
 ) -> Front
-    requires given { ⌜ Given n d (now vectors) (now query) ⌝ }
+    requires given { ⌜ Askable n d (length (now vectors)) (length (now query)) ⌝ }
     requires lined { ⌜ Lined n (keyOf d (now vectors) (now query)) (now flags) (now line) (start .seen) (start .from) ⌝ }
     requires rest { ⌜ Rest n (now flags) (now rest) (start .left) ⌝ }
     requires row { ⌜ length (now row) ≡ n ⌝ }

@@ -2,8 +2,9 @@
 use crate::line;
 ghost use mathlib.Core.Path.{_≡_};
 ghost use Prim.Native.Nat.{_+_, _*_, _<_, _≤_};
-ghost use lib.ListN.{getD, set};
-ghost use Rattle.search.specs.Seen.{Given, keyOf, Lined};
+ghost use lib.ListN.{length, getD, set};
+ghost use Rattle.laws.specs.Lent.{Askable};
+ghost use Rattle.search.specs.Seen.{keyOf, Lined};
 
 // How many points are seen, a place of the line before which no point waits, and how many ids are left on the list of those that may not be seen.
 pub(crate) struct Front {
@@ -31,7 +32,7 @@ pub(crate) fn see(
     flags: &mut [u8],
     line: &mut [u32],
 ) -> Front
-    requires given { ⌜ Given n d (now vectors) (now query) ⌝ }
+    requires given { ⌜ Askable n d (length (now vectors)) (length (now query)) ⌝ }
     requires lined { ⌜ Lined n (keyOf d (now vectors) (now query)) (now flags) (now line) (front .seen) (front .from) ⌝ }
     requires fresh { ⌜ (id < n) × (getD (now flags) id 0 ≡ 0) ⌝ }
     ensures { λ r. ⌜ (now (flags .exit) ≡ set (now (flags .entry)) id 1)

@@ -3,15 +3,13 @@ use Prim.Native.Nat.{ℕ, _*_, _≤_, _<_}
 use native.Mathlib.Omega.{arith}
 use mathlib.Core.Path.{_≡_, sym, _∙_}
 use mathlib.Core.Bool.{Bool, true, false, cond}
-use mathlib.Core.List.{List, [], _∷_}
+use mathlib.Core.List.{[], _∷_}
 use lib.Dec.{leb, ltb}
-use lib.IntN.{ℤ}
-use lib.ListN.{length}
 use Rattle.rules.specs.Outcome.{firstOf}
 use Rattle.rules.specs.Refusals.{outside, differ, startRefusal, walkRefusal, refuse9}
 use Rattle.laws.proofs.Refusals.{else-none, else-both}
-use Rattle.laws.proofs.RefusalOrder.{walk-order, StartOk, start-ok, start-none}
-use Rattle.walk.specs.Taken.{Taken}
+use Rattle.laws.specs.Lent.{StartOk}
+use Rattle.laws.proofs.RefusalOrder.{walk-order, start-ok, start-none}
 
 -- it is not refused for what it starts from, nor for its threshold
 parts : (n d vectors table query id threshold : ℕ) → walkRefusal n d vectors table query id threshold ≡ 0 →
@@ -19,16 +17,8 @@ parts : (n d vectors table query id threshold : ℕ) → walkRefusal n d vectors
 parts n d vectors table query id threshold e =
     else-both (startRefusal n d vectors table query id) _ (sym (walk-order n d vectors table query id threshold) ∙ e)
 
-pub taken : (n d : ℕ) (vectors : List ℤ) (table : List ℕ) (query : List ℤ) (id threshold : ℕ) →
-    walkRefusal n d (length vectors) (length table) (length query) id threshold ≡ 0 → Taken n d vectors table query id
-taken n d vectors table query id threshold e =
-    let starts = parts n d (length vectors) (length table) (length query) id threshold e .0 in
-    let ok = start-ok n d (length vectors) (length table) (length query) id starts in
-    record {
-      set = record { given = ok .set-given; few = ok .few-points; as-many = ok .query-is };
-      whole = ok .table-is;
-      within = ok .start-in;
-    }
+pub taken : (n d vectors table query id threshold : ℕ) → walkRefusal n d vectors table query id threshold ≡ 0 → StartOk n d vectors table query id
+taken n d vectors table query id threshold e = start-ok n d vectors table query id (parts n d vectors table query id threshold e .0)
 
 -- another id of the set is not refused either
 pub another : (n d vectors table query id threshold other : ℕ) → walkRefusal n d vectors table query id threshold ≡ 0 → other < n →
@@ -37,10 +27,8 @@ another n d vectors table query id threshold other e l =
     let both = parts n d vectors table query id threshold e in
     let ok = start-ok n d vectors table query id (both .0) in
     let starts : StartOk n d vectors table query other = record {
-      set-given = ok .set-given;
-      few-points = ok .few-points;
+      asked = ok .asked;
       table-is = ok .table-is;
-      query-is = ok .query-is;
       start-in = l;
     } in
     walk-order n d vectors table query other threshold ∙ else-none (start-none n d vectors table query other starts) _ ∙ both .1

@@ -26,7 +26,7 @@ use Rattle.walk.specs.declared.End.{End}
 use Rattle.walk.specs.declared.Walked.{Walked}
 use Rattle.walk.specs.declared.Walked.the-variants.{Refused, Ended}
 use Rattle.walk.specs.Answers.{at, endIn, toldEnd}
-use Rattle.walk.specs.Taken.{Taken}
+use Rattle.laws.specs.Lent.{StartOk}
 use Rattle.walk.specs.Whole.{stepsOn, BySteps, Arrived}
 use Rattle.walk.proofs.Taken.{taken, another, no-eighteen}
 use Rattle.walk.proofs.Steps.{number-end, number-move, step-ends, step-moves}
@@ -45,14 +45,14 @@ module _ (n d : ℕ) (vectors : List ℤ) (table : List ℕ) (query : List ℤ) 
   abbrev next : Record → Record
   next = recordAfter n d vectors table query threshold
 
-  known : Taken n d vectors table query start
-  known = taken n d vectors table query start threshold given
+  known : StartOk n d (length vectors) (length table) (length query) start
+  known = taken n d (length vectors) (length table) (length query) start threshold given
 
   abbrev Comes : Record → Type 0
   Comes w = Passes n D edge start w
 
   few : n ≤ 128
-  few = known .set .few
+  few = known .asked .few-points
 
   -- ---- the steps of a walk
 
@@ -113,7 +113,7 @@ module _ (n d : ℕ) (vectors : List ℤ) (table : List ℕ) (query : List ℤ) 
 
   starts : Comes (at start 0)
   starts =
-      passes-start n D edge start (known .within)
+      passes-start n D edge start (known .start-in)
 
   pub by-steps : BySteps n d vectors table query threshold start
   unfolding ending walkFrom
@@ -137,7 +137,7 @@ module _ (n d : ℕ) (vectors : List ℤ) (table : List ℕ) (query : List ℤ) 
   real-end : (e : End) → endIn e ≡ endOf n d vectors table query threshold start → Arrived n d vectors table query threshold e
   unfolding endOf ending goesTo
   real-end e q =
-      let s = walk-ends n D edge start (known .within) in
+      let s = walk-ends n D edge start (known .start-in) in
       let id : e .last ≡ walkFrom n D edge start .current = ap (λ (x : Ending). x .last) q in
       let count : e .moves ≡ walkFrom n D edge start .moves = ap (λ (x : Ending). x .moves) q in
       record {
@@ -165,7 +165,7 @@ module _ (n d : ℕ) (vectors : List ℤ) (table : List ℕ) (query : List ℤ) 
   unfolding endOf ending
   zero-end closing v l is e q =
       let zero : D v ≡ 0 = from-point v is v ∙ apart-self v in
-      let found = walk-arrives n D edge few (apart d vectors) (apart-symmetric d vectors) closing v l (λ u k. from-point v is u) zero start (known .within) in
+      let found = walk-arrives n D edge few (apart d vectors) (apart-symmetric d vectors) closing v l (λ u k. from-point v is u) zero start (known .start-in) in
       ap (λ (x : Ending). x .distance) q ∙ found .nearest ∙ zero
 
   -- document 01: where the query is a point, and the table's edges close, the walk ends at D = 0

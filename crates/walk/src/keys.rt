@@ -2,15 +2,16 @@
 ghost use mathlib.Core.Path.{_≡_};
 ghost use mathlib.Core.Bool.{cond};
 ghost use Prim.Native.Nat.{_*_, _%_, _<_, _≤_, min};
+ghost use lib.ListN.{length};
 ghost use Rattle.rules.specs.Points.{away};
 ghost use Rattle.rules.specs.Order.{keyed};
 ghost use Rattle.rules.specs.Labels.{edgeIn};
+ghost use Rattle.laws.specs.Lent.{Askable, StartOk};
 ghost use Rattle.walk.specs.Least.{least};
-ghost use Rattle.walk.specs.Taken.{Askable, Taken};
 
 // D from the query to a point.
 pub(crate) fn from_query(n: usize, d: usize, vectors: &[i8], query: &[i8], id: usize) -> u32
-    requires set { ⌜ Askable n d (now vectors) (now query) ⌝ }
+    requires set { ⌜ Askable n d (length (now vectors)) (length (now query)) ⌝ }
     requires id { ⌜ id < n ⌝ }
     ensures { λ r. ⌜ r ≡ away d (now (vectors .entry)) (now (query .entry)) id ⌝ }
     ensures bounded { λ r. ⌜ r ≤ 4161600 ⌝ }
@@ -20,7 +21,7 @@ pub(crate) fn from_query(n: usize, d: usize, vectors: &[i8], query: &[i8], id: u
 
 // The key of a point.
 fn key_of(n: usize, d: usize, vectors: &[i8], query: &[i8], id: usize) -> u32
-    requires set { ⌜ Askable n d (now vectors) (now query) ⌝ }
+    requires set { ⌜ Askable n d (length (now vectors)) (length (now query)) ⌝ }
     requires id { ⌜ id < n ⌝ }
     ensures { λ r. ⌜ r ≡ keyed (away d (now (vectors .entry)) (now (query .entry))) id ⌝ }
 {
@@ -46,7 +47,7 @@ fn better(
     id: usize,
     best: u32,
 ) -> u32
-    requires current { ⌜ Taken n d (now vectors) (now table) (now query) current ⌝ }
+    requires current { ⌜ StartOk n d (length (now vectors)) (length (now table)) (length (now query)) current ⌝ }
     requires id { ⌜ id < n ⌝ }
     ensures { λ r. ⌜ r ≡ cond (edgeIn (now (table .entry)) n threshold current id)
         (min (keyed (away d (now (vectors .entry)) (now (query .entry))) id) best) best ⌝ }
@@ -72,7 +73,7 @@ pub(crate) fn next_key(
     current: u16,
     distance: u32,
 ) -> u32
-    requires current { ⌜ Taken n d (now vectors) (now table) (now query) current ⌝ }
+    requires current { ⌜ StartOk n d (length (now vectors)) (length (now table)) (length (now query)) current ⌝ }
     requires bounded { ⌜ distance ≤ 4161600 ⌝ }
     ensures { λ r. ⌜ r ≡ least (keyed (away d (now (vectors .entry)) (now (query .entry))))
         (edgeIn (now (table .entry)) n threshold current) (distance * 128) n ⌝ }

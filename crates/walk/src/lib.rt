@@ -3,8 +3,8 @@ ghost use mathlib.Core.Path.{_≡_};
 ghost use lib.ListN.{length};
 ghost use Rattle.rules.specs.Refusals.{walkRefusal};
 ghost use Rattle.rules.specs.Entries.{stepAnswer, recordAfter, walkAnswer, endOf};
+ghost use Rattle.laws.specs.Lent.{StartOk};
 ghost use Rattle.walk.specs.Answers.{at, recordOf, recordIn, told, endIn, toldEnd};
-ghost use Rattle.walk.specs.Taken.{Taken};
 
 mod keys;
 
@@ -135,7 +135,7 @@ fn walk_on(
     threshold: u16,
     start: u16,
 ) -> End
-    requires { ⌜ Taken n d (now vectors) (now table) (now query) start ⌝ }
+    requires { ⌜ StartOk n d (length (now vectors)) (length (now table)) (length (now query)) start ⌝ }
     ensures { λ r. ⌜ endIn r ≡ endOf n d (now (vectors .entry)) (now (table .entry)) (now (query .entry)) threshold start ⌝ }
 {
     let mut last = start;

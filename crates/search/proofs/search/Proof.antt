@@ -41,15 +41,15 @@ unrefused : (c : tie.Else1) →
 unrefused c = search-ok _ _ _ _ _ _ _ _ _ _ _ _ (taken c)
 
 list-all-requires : tie.Need-list-all-requires
-list-all-requires c κs = (unrefused (c .before) .few-points, refl)
+list-all-requires c κs = (unrefused (c .before) .starts .asked .few-points, refl)
 
 see-requires : tie.Need-see-requires
 see-requires c κs =
     let asked = c .before .before .before .before .before in
     let ok = unrefused asked in
     let start = asked .before .before .before .before .before .before .args .start in (
-      record { set-given = ok .set-given; query-is = ok .query-is },
-      (nothing-seen _ _ _ _ refl refl (zeros-at 128), (ok .start-in, zeros-at 128 start)),
+      ok .starts .asked,
+      (nothing-seen _ _ _ _ refl refl (zeros-at 128), (ok .starts .start-in, zeros-at 128 start)),
     )
 
 slice-aggregate-explore : tie.Need-slice-aggregate-explore
@@ -66,10 +66,10 @@ explore-requires c κs =
     let see = c .before .before .before .before .before .before in
     let all = see .before .before .before .before in
     let ok = unrefused (all .before .before) in
-    let first = started _ _ (ok .start-in) (ok .few-points) _ (see .see .ensures .0) in
-    let listed = rest-start (all .list-all .ensures) (ok .few-points) in (
-      record { set-given = ok .set-given; query-is = ok .query-is },
-      (see .see .ensures .1, (rw (see .see .ensures .2) (listed _), (first .fresh, (ok .table-is, ok .trail-room)))),
+    let first = started _ _ (ok .starts .start-in) (ok .starts .asked .few-points) _ (see .see .ensures .0) in
+    let listed = rest-start (all .list-all .ensures) (ok .starts .asked .few-points) in (
+      ok .starts .asked,
+      (see .see .ensures .1, (rw (see .see .ensures .2) (listed _), (first .fresh, (ok .starts .table-is, ok .trail-room)))),
     )
 
 smaller-requires : tie.Need-smaller-requires
@@ -87,7 +87,7 @@ answer-requires c κs =
     let f = c .before .before .before .smaller .ensures in
     let explore = c .before .before .before .before .before .before .before .before .before in
     let ok = unrefused (asked-before explore) in
-    (omega (arith, explored-room (ok .few-points) (explore .explore .ensures)), omega arith, omega arith)
+    (omega (arith, explored-room (ok .starts .asked .few-points) (explore .explore .ensures)), omega arith, omega arith)
 
 same-length : tie.Need-same-length
 same-length c = search needs
@@ -106,7 +106,7 @@ returns-2 c =
     let asked = asked-before explore in
     let ok = unrefused asked in
     let see = explore .before .before .before .before .before .before .before .see in
-    let first = started _ _ (ok .start-in) (ok .few-points) _ (see .ensures .0) in
+    let first = started _ _ (ok .starts .start-in) (ok .starts .asked .few-points) _ (see .ensures .0) in
     let x =
     giving _ _ _ _ _ _ _ _ _ _ _ _ _ _ _ _ _ _ _ _ (taken asked) (first .only) (explore .explore .ensures)
     (smaller .smaller .ensures) (answer .answer .ensures .0) (answer .answer .ensures .1) in

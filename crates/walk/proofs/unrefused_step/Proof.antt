@@ -5,19 +5,20 @@ use mathlib.Core.Path.{_≡_, refl, ap, _∙_}
 use mathlib.Core.Option.{Option, none, some}
 use borrow.Author.Needs.{needs}
 use denote.Ref.{now}
+use lib.ListN.{length}
 use Rattle.rules.specs.Entries.{goesTo}
 use Rattle.walk.specs.Answers.{told}
-use Rattle.walk.specs.Taken.{Taken}
+use Rattle.laws.specs.Lent.{StartOk}
 use Rattle.walk.proofs.Taken.{taken}
 use Rattle.walk.proofs.Steps.{goes-nowhere, goes-there, step-ends, step-full, step-moves}
 use Rattle.walk.proofs.unrefused_step.Statement.{statement}
 use Rattle.walk.proofs.unrefused_step.Tie as tie
 
-known : (c : tie.Start) → let a = c .args in Taken (a .n) (a .d) (now (a .vectors)) (now (a .table)) (now (a .query)) (a .current)
+known : (c : tie.Start) → let a = c .args in StartOk (a .n) (a .d) (length (now (a .vectors))) (length (now (a .table))) (length (now (a .query))) (a .current)
 known c = taken _ _ _ _ _ _ _ (c .pre)
 
 from-query-requires : tie.Need-from-query-requires
-from-query-requires c κs = let k = known (c .before) in (k .set, k .within)
+from-query-requires c κs = let k = known (c .before) in (k .asked, k .start-in)
 
 next-key-requires : tie.Need-next-key-requires
 next-key-requires c κs = (known (c .before .before), c .from-query .ensures .1)
@@ -30,7 +31,7 @@ module _ (c : tie.After-next-key) where
       goesTo (a .n) (a .d) (now (a .vectors)) (now (a .table)) (now (a .query)) (a .threshold) (a .current)
 
   few : c .before .before .before .args .n ≤ 128
-  few = known (c .before .before .before) .set .few
+  few = known (c .before .before .before) .asked .few-points
 
   nowhere : c .before .from-query .result ≤ c .next-key .result / 128 → next ≡ none
   nowhere h = goes-nowhere _ _ _ _ _ _ _ _ _ few (c .before .from-query .ensures .0) (c .next-key .ensures) h

@@ -23,7 +23,7 @@ next-key-requires c κs = search needs
 loop-holds : tie.Need-loop-holds Inv-loop μ-loop
 loop-holds c =
     let f = c .before .from-query .ensures in
-    record { passes = passes-start _ _ _ _ (c .before .before .before .pre .within); far = f .0; bounded = f .1; next = c .next-key .ensures }
+    record { passes = passes-start _ _ _ _ (c .before .before .before .pre .start-in); far = f .0; bounded = f .1; next = c .next-key .ensures }
 
 id-of-requires : tie.Need-id-of-requires Inv-loop μ-loop
 id-of-requires c κs = search needs
@@ -31,7 +31,7 @@ id-of-requires c κs = search needs
 -- a turn moves to a nearer id of the set, with moves to spare
 module _ (c : tie.After-id-of Inv-loop μ-loop) where
   few : c .before .before .before .before .before .before .args .n ≤ 128
-  few = c .before .before .before .before .before .before .pre .set .few
+  few = c .before .before .before .before .before .before .pre .asked .few-points
 
   nearer : c .before .before .loop .key / 128 < c .before .before .loop .distance
   nearer = omega arith
@@ -43,9 +43,9 @@ next-key-requires-2 : tie.Need-next-key-requires-2 Inv-loop μ-loop
 next-key-requires-2 c κs =
     let s = c .before .before .before .before .before .before .pre in (
       record {
-        set = s .set;
-        whole = s .whole;
-        within = way-passes _ _ _ _ _ _ _ (c .before .before .loop .inv) (few c) _ (c .id-of .ensures) (nearer c) .within;
+        asked = s .asked;
+        table-is = s .table-is;
+        start-in = way-passes _ _ _ _ _ _ _ (c .before .before .loop .inv) (few c) _ (c .id-of .ensures) (nearer c) .within;
       },
       omega arith,
     )
@@ -66,7 +66,7 @@ loop-again c =
 
 returns : tie.Need-returns Inv-loop μ-loop
 returns c =
-    way-ends _ _ _ _ _ _ _ (c .before .loop .inv) (c .before .before .before .before .before .pre .set .few) (c .loop-test .left)
+    way-ends _ _ _ _ _ _ _ (c .before .loop .inv) (c .before .before .before .before .before .pre .asked .few-points) (c .loop-test .left)
 
 pub walk-on-spec : {M : Type 1} → statement M
 walk-on-spec =

@@ -7,7 +7,7 @@ use Rattle.rules.specs.Outcome.{gives}
 use Rattle.rules.specs.Refusals.{walkRefusal}
 use Rattle.rules.specs.Entries.{walkAnswer}
 use Rattle.laws.proofs.Refusals.{outcome-gives, outcome-refused}
-use Rattle.walk.specs.Taken.{Taken}
+use Rattle.laws.specs.Lent.{StartOk}
 use Rattle.walk.proofs.Taken.{taken}
 use Rattle.walk.proofs.whole_walk.Statement.{statement}
 use Rattle.walk.proofs.whole_walk.Tie as tie
@@ -18,7 +18,7 @@ none-given : (c : tie.Else1) →
 none-given c = sym (c .before .walk-refusal .ensures) ∙ c .if1 .left
 
 known : (c : tie.Else1)
-    → let a = c .before .before .before .args in Taken (a .n) (a .d) (now (a .vectors)) (now (a .table)) (now (a .query)) (a .start)
+    → let a = c .before .before .before .args in StartOk (a .n) (a .d) (length (now (a .vectors))) (length (now (a .table))) (length (now (a .query))) (a .start)
 known c = taken _ _ _ _ _ _ _ (none-given c)
 
 walk-refusal-requires : tie.Need-walk-refusal-requires

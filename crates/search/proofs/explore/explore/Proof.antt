@@ -7,7 +7,6 @@ use native.Mathlib.Omega.{arith}
 use Rattle.rules.specs.Points.{away}
 use Rattle.search.specs.Rest.{Rest}
 use Rattle.search.specs.Seen.{goesOn}
-use Rattle.search.proofs.Seeing.{given-small}
 use Rattle.search.proofs.Rounds.{Round, round-start, next-place, next-waits, room, round-step, round-end}
 use borrow.Author.Needs.{needs}
 use Rattle.search.proofs.explore.explore.Statement.{statement}
@@ -30,7 +29,7 @@ module _ (c : tie.Then1 Inv-loop μ-loop) where
   round = c .before .before
 
   small : entry .args .n ≤ 128
-  small = given-small (entry .pre .0)
+  small = entry .pre .0 .few-points
 
   goes : goesOn (round .loop .front .seen) (round .loop .front .from) (entry .args .width) ≡ true
   goes = sym (c .before .goes-on .ensures) ∙ c .if1 .taken
@@ -51,7 +50,7 @@ going c = c .before .before .before .before .before .before .before .before .bef
 loop-holds : tie.Need-loop-holds Inv-loop μ-loop
 loop-holds c =
     let pre = c .before .before .before .before .before .pre in
-    (round-start _ _ _ _ _ _ _ (given-small (pre .0)) (pre .1 .1 .1 .0) (pre .1 .0), pre .1 .1 .0)
+    (round-start _ _ _ _ _ _ _ (pre .0 .few-points) (pre .1 .1 .1 .0) (pre .1 .0), pre .1 .1 .0)
 
 goes-on-requires : tie.Need-goes-on-requires Inv-loop μ-loop
 goes-on-requires c κs = search needs
@@ -109,7 +108,7 @@ returns : tie.Need-returns Inv-loop μ-loop
 returns c =
     let round = c .before .before in
     let pre = round .before .before .before .before .before .before .pre in
-    round-end _ _ _ _ _ _ _ (given-small (pre .0)) (round .loop .inv .0) (sym (c .before .goes-on .ensures) ∙ c .if1 .left)
+    round-end _ _ _ _ _ _ _ (pre .0 .few-points) (round .loop .inv .0) (sym (c .before .goes-on .ensures) ∙ c .if1 .left)
 
 pub explore-spec : {M : Type 1} → statement M
 explore-spec =

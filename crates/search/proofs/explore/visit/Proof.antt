@@ -2,7 +2,7 @@
 use Prim.Native.Nat.{_+_, _*_, _≤_}
 use native.Mathlib.Omega.{arith}
 use lib.ListN.{length, length-take, length-drop}
-use Rattle.search.proofs.Seeing.{given-small, flag-there, line-holds}
+use Rattle.search.proofs.Seeing.{flag-there, line-holds}
 use Rattle.search.proofs.Listing.{rest-mark}
 use Rattle.search.proofs.Visiting.{row-fits, mark-lined, visited}
 use borrow.Author.Needs.{needs}
@@ -14,13 +14,13 @@ fits : (c : tie.After-slice-known3) →
     let a = c .before .before .before .before .args in (a .x * a .n + a .n ≤ length (a .table .now)) × (length (a .table .now) ≤ 16384)
 fits c =
     let pre = c .before .before .before .before .pre in
-    let f = row-fits _ _ (given-small (pre .0)) (pre .1 .1 .1 .1 .0) in
+    let f = row-fits _ _ (pre .0 .few-points) (pre .1 .1 .1 .1 .0) in
     (omega (arith, f .0, pre .1 .1 .1 .0), omega (arith, f .1, pre .1 .1 .1 .0))
 
 slice-write-flags : tie.Need-slice-write-flags
 slice-write-flags c =
     let pre = c .before .before .before .before .pre in
-    flag-there (pre .0) (pre .1 .0) (pre .1 .1 .1 .1 .0)
+    flag-there (pre .0 .few-points) (pre .1 .0) (pre .1 .1 .1 .1 .0)
 
 mul-a : tie.Need-mul-a
 mul-a c = omega (arith, fits c .0, fits c .1)
@@ -44,7 +44,7 @@ follow-requires : tie.Need-follow-requires
 follow-requires c κs =
     let s = c .before .before .before .before in
     let pre = s .before .before .before .before .pre in
-    let there = flag-there (pre .0) (pre .1 .0) (pre .1 .1 .1 .1 .0) in (
+    let there = flag-there (pre .0 .few-points) (pre .1 .0) (pre .1 .1 .1 .1 .0) in (
       pre .0,
       (
         mark-lined _ _ there (pre .1 .1 .1 .1 .1) (pre .1 .0),
@@ -57,7 +57,7 @@ first-open-requires c κs =
     let follow = c .before .before .before .before .before .before .before .before in
     let h = follow .follow .ensures .1 in
     let pre = follow .before .before .before .before .before .before .before .before .before .pre in
-    (h .from-in, line-holds (pre .0) h, h .flags-size)
+    (h .from-in, line-holds (pre .0 .few-points) h, h .flags-size)
 
 same-length : tie.Need-same-length
 same-length c = search needs

@@ -3,7 +3,7 @@ use Prim.Native.Nat.{_-_, _<_}
 use native.Mathlib.Omega.{arith}
 use lib.ListN.{length, getD}
 use Rattle.search.specs.Seen.{Lined, keyOf}
-use Rattle.search.proofs.Seeing.{given-small, flag-there}
+use Rattle.search.proofs.Seeing.{flag-there}
 use Rattle.search.proofs.Following.{Following, following-start, following-pass, following-reach, following-end}
 use borrow.Author.Needs.{needs}
 use Rattle.search.proofs.follow.follow.Statement.{statement}
@@ -28,7 +28,7 @@ module _ (c : tie.Then1 Inv-loop μ-loop) where
   in-set = turn .loop .inv .0 .list .below (turn .loop .i) (c .if1 .taken)
 
   has-flag : getD (turn .loop .rest) (turn .loop .i) 0 < length (turn .loop .flags)
-  has-flag = flag-there (entry .pre .0) (turn .loop .inv .1) in-set
+  has-flag = flag-there (entry .pre .0 .few-points) (turn .loop .inv .1) in-set
 
 loop-holds : tie.Need-loop-holds Inv-loop μ-loop
 loop-holds c =
@@ -41,10 +41,10 @@ slice-read-id c =
     omega (arith, list .size, list .few, c .before .if1 .taken)
 
 cast-id : tie.Need-cast-id Inv-loop μ-loop
-cast-id c = omega (arith, in-set (c .before), given-small (entry (c .before) .pre .0))
+cast-id c = omega (arith, in-set (c .before), entry (c .before) .pre .0 .few-points)
 
 mul-if2 : tie.Need-mul-if2 Inv-loop μ-loop
-mul-if2 c = omega (arith, in-set (c .before), given-small (entry (c .before) .pre .0))
+mul-if2 c = omega (arith, in-set (c .before), entry (c .before) .pre .0 .few-points)
 
 shared-slice-read-if2 : tie.Need-shared-slice-read-if2 Inv-loop μ-loop
 shared-slice-read-if2 c =

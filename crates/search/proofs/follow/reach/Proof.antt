@@ -3,7 +3,7 @@ use Prim.Native.Nat.{_<_}
 use mathlib.Core.Path.{refl, _∙_}
 use native.Mathlib.Omega.{arith}
 use lib.ListN.{length, getD}
-use Rattle.search.proofs.Seeing.{given-small, flag-there}
+use Rattle.search.proofs.Seeing.{flag-there}
 use Rattle.search.proofs.Listing.{reached-new, reached-seen, reach-holds}
 use borrow.Author.Needs.{needs}
 use Rattle.search.proofs.follow.reach.Statement.{statement}
@@ -15,7 +15,7 @@ module _ (s : tie.Start) where
   in-set = s .pre .1 .1 .0 .below (s .args .i) (s .pre .1 .1 .1)
 
   has-flag : getD (s .args .rest .now) (s .args .i) 0 < length (s .args .flags .now)
-  has-flag = flag-there (s .pre .0) (s .pre .1 .0) in-set
+  has-flag = flag-there (s .pre .0 .few-points) (s .pre .1 .0) in-set
 
 slice-read-id : tie.Need-slice-read-id
 slice-read-id c = search needs
@@ -23,7 +23,7 @@ slice-read-id c = search needs
 cast-id : tie.Need-cast-id
 cast-id c =
     let s = c .before .before .before .before in
-    omega (arith, in-set s, given-small (s .pre .0))
+    omega (arith, in-set s, s .pre .0 .few-points)
 
 sub-left : tie.Need-sub-left
 sub-left c = search needs

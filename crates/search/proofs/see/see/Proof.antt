@@ -2,7 +2,7 @@
 use Prim.Native.Nat.{_<_}
 use mathlib.Core.Path.{refl}
 use native.Mathlib.Omega.{arith}
-use Rattle.search.proofs.Seeing.{given-small, flag-there, line-room, see-holds}
+use Rattle.search.proofs.Seeing.{flag-there, line-room, see-holds}
 use borrow.Author.Needs.{needs}
 use Rattle.search.proofs.see.see.Statement.{statement}
 use Rattle.search.proofs.see.see.Tie as tie
@@ -10,7 +10,7 @@ use Rattle.search.proofs.see.see.Tie as tie
 slice-write-flags : tie.Need-slice-write-flags
 slice-write-flags c =
     let pre = c .before .before .pre in
-    flag-there (pre .0) (pre .1 .0) (pre .1 .1 .0)
+    flag-there (pre .0 .few-points) (pre .1 .0) (pre .1 .1 .0)
 
 measure-requires : tie.Need-measure-requires
 measure-requires c κs = search needs
@@ -19,7 +19,7 @@ measure-requires c κs = search needs
 small-id : (c : tie.After-measure) → c .before .before .before .args .id < 128
 small-id c =
     let pre = c .before .before .before .pre in
-    omega (arith, given-small (pre .0), pre .1 .1 .0)
+    omega (arith, pre .0 .few-points, pre .1 .1 .0)
 
 cast-key-of : tie.Need-cast-key-of
 cast-key-of c = omega (arith, small-id c)
@@ -30,12 +30,12 @@ key-of-requires c κs = (c .measure .ensures .1, small-id c)
 put-requires : tie.Need-put-requires
 put-requires c κs =
     let pre = c .before .before .before .before .before .pre in
-    line-room (pre .0) (pre .1 .0) _ (pre .1 .1 .0) (pre .1 .1 .1)
+    line-room (pre .0 .few-points) (pre .1 .0) _ (pre .1 .1 .0) (pre .1 .1 .1)
 
 add-t18 : tie.Need-add-t18
 add-t18 c =
     let pre = c .before .before .before .before .before .before .before .before .pre in
-    omega (arith, pre .1 .0 .line-size, line-room (pre .0) (pre .1 .0) _ (pre .1 .1 .0) (pre .1 .1 .1))
+    omega (arith, pre .1 .0 .line-size, line-room (pre .0 .few-points) (pre .1 .0) _ (pre .1 .1 .0) (pre .1 .1 .1))
 
 smaller-requires : tie.Need-smaller-requires
 smaller-requires c κs = search needs
@@ -51,9 +51,11 @@ returns c =
     let put = c .before .before .before in
     let key = put .before .before in
     let measure = key .before in
-    let pre = measure .before .before .before .pre in (
+    let s = measure .before .before .before in
+    let pre = s .pre in
+    let a = s .args in (
       refl,
-      see-holds (pre .0) (pre .1 .0) _ _ _ _ _ (pre .1 .1 .0) (pre .1 .1 .1)
+      see-holds (a .vectors .now) (a .query .now) (pre .0) (pre .1 .0) _ _ _ _ _ (pre .1 .1 .0) (pre .1 .1 .1)
           (measure .measure .ensures .0) (key .key-of .ensures) (put .put .ensures) (c .smaller .ensures),
       refl,
     )

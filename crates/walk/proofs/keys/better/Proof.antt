@@ -12,10 +12,10 @@ inside : (c : tie.Else1) →
     c .before .before .args .current * c .before .before .args .n + c .before .before .args .id < c .before .before .args .n * c .before .before .args .n
 inside c =
     let s = c .before .before in
-    cell-in (s .args .n) (s .args .current) (s .args .id) (s .pre .0 .within) (s .pre .1)
+    cell-in (s .args .n) (s .args .current) (s .args .id) (s .pre .0 .start-in) (s .pre .1)
 
 few-cells : (c : tie.Else1) → c .before .before .args .n * c .before .before .args .n ≤ 16384
-few-cells c = let s = c .before .before in small-square (s .args .n) (s .pre .0 .set .few)
+few-cells c = let s = c .before .before in small-square (s .args .n) (s .pre .0 .asked .few-points)
 
 returns : tie.Need-returns
 returns c = without-edge _ _ (no-edge-self _ _ _ _ _ (c .if1 .taken))

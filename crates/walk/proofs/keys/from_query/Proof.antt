@@ -11,7 +11,7 @@ measure-requires c κs = search needs
 returns : tie.Need-returns
 returns c =
     let set = c .before .pre .0 in
-    (c .measure .ensures .0 ∙ measured _ _ _ (set .given) _ (set .as-many) _ (c .before .pre .1), c .measure .ensures .1)
+    (c .measure .ensures .0 ∙ measured _ _ _ (set .set-given) _ (set .query-is) _ (c .before .pre .1), c .measure .ensures .1)
 
 pub from-query-spec : {M : Type 1} → statement M
 from-query-spec = tie.close (tie.spec measure-requires returns)
