@@ -1,5 +1,7 @@
 // The lines of document 01, "The program", as bytes in a lent buffer. Each line is measured first, so that a buffer that is too short is refused and
 // keeps all it held.
+#![tactic(auto)]
+
 mod measure;
 mod measure_line;
 mod put;
@@ -10,7 +12,7 @@ ghost use Rattle.rules.specs.Lines.{set_line, found_line, ask_refused_line, near
 ghost use Rattle.lines.specs.Placing.{placed_answer, placed_after, three_lines};
 
 // Whether bytes were placed: the buffer is too short, or the place after them.
-#[derive(Drop)]
+#[derive(Clone, Copy)]
 pub enum Placed {
     Short,
     End(usize),

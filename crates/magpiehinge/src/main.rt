@@ -1,4 +1,6 @@
 // Reads one sheet from standard input and writes its lines.
+#![tactic(auto)]
+
 ghost use Rattle.std.specs.Prelude.{◌≤◌, length};
 ghost use Rattle.magpiehinge.specs.Reading.{length_of};
 
@@ -6,7 +8,7 @@ use libc::{STDIN_FILENO, STDOUT_FILENO};
 use lines::Placed;
 
 // What was read: a read failed, or the bytes up to the end of the input or of the buffer.
-#[derive(Drop)]
+#[derive(Clone, Copy)]
 enum Input {
     Failed,
     Length(usize),

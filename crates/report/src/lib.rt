@@ -1,4 +1,6 @@
 // What the program prints: an ask's lines from what was read, and all the lines of a sheet.
+#![tactic(auto)]
+
 mod found;
 mod whole;
 

@@ -9,7 +9,7 @@ use crate::see::Front;
 use crate::{follow, line};
 
 // What an exploration has come to: how many points are seen, and how many are on the trail.
-#[derive(Drop)]
+#[derive(Clone, Copy)]
 pub(crate) struct Ways {
     pub(crate) seen: usize,
     pub(crate) walked: usize,

@@ -1,4 +1,6 @@
 // The search of document 01: explore from the start, then take the first k.
+#![tactic(auto)]
+
 ghost use Rattle.std.specs.Prelude.{◌≡◌, map, ◌≤◌, ◌||◌, ltb, length, take};
 ghost use Rattle.rules.specs.Outcome.{over};
 ghost use Rattle.rules.specs.Refusals.{search_refusal};
@@ -13,7 +15,7 @@ mod line;
 mod see;
 
 // How many points were found, seen and walked.
-#[derive(Drop)]
+#[derive(Clone, Copy)]
 pub struct Counts {
     pub found: usize,
     pub seen: usize,
@@ -21,7 +23,7 @@ pub struct Counts {
 }
 
 // What a search answers: a refusal's number, or its counts.
-#[derive(Drop)]
+#[derive(Clone, Copy)]
 pub enum Searched {
     Refused(u8),
     Done(Counts),

@@ -6,7 +6,7 @@ ghost use Rattle.search.specs.Seen.{key_of, Lined};
 use crate::line;
 
 // How many points are seen, a place of the line before which no point waits, and how many ids are left on the list of those that may not be seen.
-#[derive(Drop)]
+#[derive(Clone, Copy)]
 pub(crate) struct Front {
     pub(crate) seen: usize,
     pub(crate) from: usize,

@@ -1,4 +1,6 @@
 // Writes and reads test sheets (document 01, "Test sheet").
+#![tactic(auto)]
+
 mod fields;
 pub mod place;
 mod put;
@@ -12,14 +14,14 @@ ghost use Rattle.rules.specs.Refusals.{vectors_refusal};
 ghost use Rattle.rules.specs.Entries.{write_answer, output_after, header_answer, vectors_after, ask_answer, query_after};
 ghost use Rattle.sheet.specs.Answers.{write_told, head_told, ask_told};
 
-#[derive(Drop)]
+#[derive(Clone, Copy)]
 pub enum Written {
     Refused(u8),
     Length(usize),
 }
 
 // What a sheet's header holds: n points of d coordinates, the coordinate width c and the ask count.
-#[derive(Drop)]
+#[derive(Clone, Copy)]
 pub struct Head {
     pub n: usize,
     pub d: usize,
@@ -27,14 +29,14 @@ pub struct Head {
     pub asks: usize,
 }
 
-#[derive(Drop)]
+#[derive(Clone, Copy)]
 pub enum Headed {
     Refused(u8),
     Holds(Head),
 }
 
 // One ask's four numbers.
-#[derive(Drop)]
+#[derive(Clone, Copy)]
 pub enum Asked {
     Refused(u8),
     Numbers {

@@ -6,7 +6,7 @@ ghost use Rattle.sheet.specs.Past.{past_at};
 
 use crate::fields::{field_at, past_at};
 
-#[derive(Drop)]
+#[derive(Clone, Copy)]
 pub struct Place<'a> {
     pub sheet: &'a [u8],
     pub next: usize,

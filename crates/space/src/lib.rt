@@ -1,4 +1,6 @@
 // Points of a set: whether the set is refused, a point's coordinates, and the distance.
+#![tactic(auto)]
+
 ghost use Rattle.std.specs.Prelude.{◌≡◌, ◌≤◌, min, length, take};
 ghost use Rattle.rules.specs.Points.{dist};
 ghost use Rattle.rules.specs.Refusals.{outside, set_refusal, start_refusal, point_refusal};

@@ -1,4 +1,6 @@
 // The label table of a set.
+#![tactic(auto)]
+
 ghost use Rattle.std.specs.Prelude.{◌≡◌, ◌-◌, ◌*◌, ◌<◌, ◌≤◌, min, cond, length};
 ghost use Rattle.rules.specs.Points.{apart};
 ghost use Rattle.rules.specs.Labels.{reaches, label_of, table_of};

@@ -1,4 +1,6 @@
 // The greedy walk of document 01: one step of a record that the caller keeps, and the whole walk from a start to its end.
+#![tactic(auto)]
+
 ghost use Rattle.std.specs.Prelude.{◌≡◌, length};
 ghost use Rattle.rules.specs.Refusals.{walk_refusal};
 ghost use Rattle.rules.specs.Entries.{step_answer, record_after, walk_answer, end_of};
@@ -8,13 +10,13 @@ ghost use Rattle.walk.specs.Answers.{at, record_of, record_in, told, end_in, tol
 mod keys;
 
 // The walk record: the caller keeps it, and each step changes it.
-#[derive(Drop)]
+#[derive(Clone, Copy)]
 pub struct Walk {
     pub current: u16,
     pub moves: u16,
 }
 
-#[derive(Drop)]
+#[derive(Clone, Copy)]
 pub enum Answer {
     Refused(u8),
     Moved,
@@ -22,7 +24,7 @@ pub enum Answer {
 }
 
 // A step's answer, and what the record holds after it.
-#[derive(Drop)]
+#[derive(Clone, Copy)]
 pub struct Stepped {
     pub answer: Answer,
     pub current: u16,
@@ -30,14 +32,14 @@ pub struct Stepped {
 }
 
 // Where the whole walk ends: the last id, its D and the moves.
-#[derive(Drop)]
+#[derive(Clone, Copy)]
 pub struct End {
     pub last: u16,
     pub distance: u32,
     pub moves: u16,
 }
 
-#[derive(Drop)]
+#[derive(Clone, Copy)]
 pub enum Walked {
     Refused(u8),
     Ended(End),
