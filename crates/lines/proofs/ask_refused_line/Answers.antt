@@ -1,0 +1,23 @@
+-- `lines::ask_refused_line` meets its contract. Assumes nothing.
+use mathlib.Core.Path.{sym, ◌∙◌}
+use Rattle.lines.proofs.Ends.{ended, placed_end, placed_short}
+use Rattle.lines.proofs.ask_refused_line.Reads as reads
+use Rattle.lines.proofs.ask_refused_line.Lts as lts
+use Rattle.lines.proofs.measure_line.ask_refused_end.Reads as ask-refused-end-reads
+use Rattle.lines.proofs.put_line.put_ask_refused.Reads as put-ask-refused-reads
+use Rattle.lines.proofs.ask_refused_line.Goals as goal
+
+pub returns-in_default : goal.returns-in_default
+returns-in_default c = let both = placed_short _ _ _ (sym c.in_default.is ∙ c.ask_refused_end.ensures) in record {
+  answer = both.0;
+  output = both.1;
+}
+
+pub put_ask_refused-requires : goal.put_ask_refused-requires
+put_ask_refused-requires c = (ended _ _ _ (sym c.in-End.is ∙ c.ask_refused_end.ensures)).0
+
+pub returns : goal.returns
+returns c = let both = placed_end c.put_ask_refused.ensures in record {
+  answer = both.0;
+  output = both.1;
+}

@@ -1,0 +1,23 @@
+-- `lines::found_line` meets its contract. Assumes nothing.
+use mathlib.Core.Path.{sym, ◌∙◌}
+use Rattle.lines.proofs.Ends.{ended, placed_end, placed_short}
+use Rattle.lines.proofs.found_line.Reads as reads
+use Rattle.lines.proofs.found_line.Lts as lts
+use Rattle.lines.proofs.measure_line.found_end.Reads as found-end-reads
+use Rattle.lines.proofs.put_line.put_found.Reads as put-found-reads
+use Rattle.lines.proofs.found_line.Goals as goal
+
+pub returns-in_default : goal.returns-in_default
+returns-in_default c = let both = placed_short _ _ _ (sym c.in_default.is ∙ c.found_end.ensures) in record {
+  answer = both.0;
+  output = both.1;
+}
+
+pub put_found-requires : goal.put_found-requires
+put_found-requires c = (ended _ _ _ (sym c.in-End.is ∙ c.found_end.ensures)).0
+
+pub returns : goal.returns
+returns c = let both = placed_end c.put_found.ensures in record {
+  answer = both.0;
+  output = both.1;
+}

@@ -1,0 +1,23 @@
+-- `lines::near_line` meets its contract. Assumes nothing.
+use mathlib.Core.Path.{sym, ◌∙◌}
+use Rattle.lines.proofs.Ends.{ended, placed_end, placed_short}
+use Rattle.lines.proofs.near_line.Reads as reads
+use Rattle.lines.proofs.near_line.Lts as lts
+use Rattle.lines.proofs.measure_line.near_end.Reads as near-end-reads
+use Rattle.lines.proofs.put_line.put_near.Reads as put-near-reads
+use Rattle.lines.proofs.near_line.Goals as goal
+
+pub returns-in_default : goal.returns-in_default
+returns-in_default c = let both = placed_short _ _ _ (sym c.in_default.is ∙ c.near_end.ensures) in record {
+  answer = both.0;
+  output = both.1;
+}
+
+pub put_near-requires : goal.put_near-requires
+put_near-requires c = (ended _ _ _ (sym c.in-End.is ∙ c.near_end.ensures)).0
+
+pub returns : goal.returns
+returns c = let both = placed_end c.put_near.ensures in record {
+  answer = both.0;
+  output = both.1;
+}

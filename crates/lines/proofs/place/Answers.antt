@@ -1,0 +1,23 @@
+-- `lines::place` meets its contract. Assumes nothing.
+use mathlib.Core.Path.{sym, ◌∙◌}
+use Rattle.lines.proofs.Ends.{ended, placed_end, placed_short}
+use Rattle.lines.proofs.place.Reads as reads
+use Rattle.lines.proofs.place.Lts as lts
+use Rattle.lines.proofs.measure.advance.Reads as advance-reads
+use Rattle.lines.proofs.put.put_word.Reads as put-word-reads
+use Rattle.lines.proofs.place.Goals as goal
+
+pub returns-in_default : goal.returns-in_default
+returns-in_default c = let both = placed_short _ _ _ (sym c.in_default.is ∙ c.advance.ensures) in record {
+  answer = both.0;
+  output = both.1;
+}
+
+pub put_word-requires : goal.put_word-requires
+put_word-requires c = (ended _ _ _ (sym c.in-End.is ∙ c.advance.ensures)).0
+
+pub returns : goal.returns
+returns c = let both = placed_end c.put_word.ensures in record {
+  answer = both.0;
+  output = both.1;
+}

@@ -1,0 +1,23 @@
+-- `lines::set_line` meets its contract. Assumes nothing.
+use mathlib.Core.Path.{sym, ◌∙◌}
+use Rattle.lines.proofs.Ends.{ended, placed_end, placed_short}
+use Rattle.lines.proofs.set_line.Reads as reads
+use Rattle.lines.proofs.set_line.Lts as lts
+use Rattle.lines.proofs.measure_line.set_end.Reads as set-end-reads
+use Rattle.lines.proofs.put_line.put_set.Reads as put-set-reads
+use Rattle.lines.proofs.set_line.Goals as goal
+
+pub returns-in_default : goal.returns-in_default
+returns-in_default c = let both = placed_short _ _ _ (sym c.in_default.is ∙ c.set_end.ensures) in record {
+  answer = both.0;
+  output = both.1;
+}
+
+pub put_set-requires : goal.put_set-requires
+put_set-requires c = (ended _ _ _ (sym c.in-End.is ∙ c.set_end.ensures)).0
+
+pub returns : goal.returns
+returns c = let both = placed_end c.put_set.ensures in record {
+  answer = both.0;
+  output = both.1;
+}

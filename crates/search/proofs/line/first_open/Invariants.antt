@@ -1,0 +1,12 @@
+-- `search::line::first_open` meets its contract: no place that was passed has an id that waits. Assumes nothing.
+use Prim.Native.Nat.{◌-◌}
+use borrow.Author.Tests.{eq-eqb, ne_eqb}
+use Rattle.search.proofs.Places.{Passing, pass_start, pass_step, pass_open, pass_none}
+use borrow.Author.Rules.{rules}
+use Rattle.search.proofs.line.first_open.Given as goal
+
+abbrev pub invariant-loop-at : goal.invariant-loop-at
+invariant-loop-at l = Passing l.line l.flags l.seen l.from l.at
+
+abbrev pub decreases-loop-at : goal.decreases-loop-at
+decreases-loop-at l = l.seen - l.at

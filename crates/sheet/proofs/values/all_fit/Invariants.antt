@@ -1,0 +1,15 @@
+-- `sheet::values::all_fit` meets its contract. The invariant: what is left decides. Assumes nothing.
+use native.Mathlib.Omega.{arith}
+use mathlib.Core.Path.{◌≡◌, refl, ◌∙◌}
+use Prim.Native.Nat.{◌-◌, ◌≤◌}
+use lib.ListN.{length, drop}
+use borrow.Author.Tests.{not-true, not-false}
+use Rattle.rules.specs.Bits.{all_fit}
+use Rattle.sheet.proofs.Signs.{all_stops, all_passes, all_done}
+use Rattle.sheet.proofs.values.all_fit.Given as goal
+
+abbrev pub invariant-loop-i : goal.invariant-loop-i
+invariant-loop-i l = (l.i ≤ length l.values) × (all_fit l.c (drop l.i l.values) ≡ all_fit l.c l.values)
+
+abbrev pub decreases-loop-i : goal.decreases-loop-i
+decreases-loop-i l = length l.values - l.i

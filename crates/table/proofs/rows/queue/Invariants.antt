@@ -1,0 +1,15 @@
+-- `table::rows::queue` meets its contract: the places passed hold the keys. Assumes nothing.
+use Prim.Native.Nat.{◌-◌, ◌≤◌}
+use mathlib.Core.Path.{refl}
+use native.Mathlib.Omega.{arith}
+use Rattle.rules.specs.Order.{keyed}
+use Rattle.table.specs.Kept.{far}
+use Rattle.table.proofs.Mapped.{Mapped, mapped_none, mapped_more}
+use Rattle.table.proofs.Starting.{key_of, replicated, queued}
+use Rattle.table.proofs.rows.queue.Given as goal
+
+abbrev pub invariant-loop-v : goal.invariant-loop-v
+invariant-loop-v l = (l.v ≤ l.n) × Mapped (key_of (far l.between l.u)) l.v l.initial.left l.left
+
+abbrev pub decreases-loop-v : goal.decreases-loop-v
+decreases-loop-v l = l.n - l.v

@@ -1,0 +1,16 @@
+-- `table::rows::spread` meets its contract: the least distances passed are those with v. Assumes nothing.
+use Prim.Native.Nat.{ℕ, ◌-◌, ◌≤◌}
+use mathlib.Core.Path.{◌∙◌}
+use mathlib.Core.List.{List}
+use native.Mathlib.Omega.{arith}
+use Rattle.table.specs.Kept.{far}
+use Rattle.table.specs.Rows.{led}
+use Rattle.table.proofs.Mapped.{Mapped, mapped_none, mapped_more}
+use Rattle.table.proofs.rows.spread.Given as goal
+
+abbrev pub invariant-loop-x : goal.invariant-loop-x
+invariant-loop-x l =
+    (l.x ≤ 128) × Mapped (by l.between l.u l.v) l.x l.initial.lead l.lead
+
+abbrev pub decreases-loop-x : goal.decreases-loop-x
+decreases-loop-x l = 128 - l.x
