@@ -1,10 +1,6 @@
 -- `lines::answer_lines` meets its contract. Assumes nothing.
 use mathlib.Core.Path.{sym, ◌∙◌}
 use Rattle.lines.proofs.Ends.{ended, placed_end, placed_short}
-use Rattle.lines.proofs.answer_lines.Reads as reads
-use Rattle.lines.proofs.answer_lines.Lts as lts
-use Rattle.lines.proofs.measure_line.three_end.Reads as three-end-reads
-use Rattle.lines.proofs.put_line.put_three.Reads as put-three-reads
 use Rattle.lines.proofs.answer_lines.Goals as goal
 
 pub returns-in_default : goal.returns-in_default

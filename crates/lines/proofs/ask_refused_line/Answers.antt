@@ -1,10 +1,6 @@
 -- `lines::ask_refused_line` meets its contract. Assumes nothing.
 use mathlib.Core.Path.{sym, ◌∙◌}
 use Rattle.lines.proofs.Ends.{ended, placed_end, placed_short}
-use Rattle.lines.proofs.ask_refused_line.Reads as reads
-use Rattle.lines.proofs.ask_refused_line.Lts as lts
-use Rattle.lines.proofs.measure_line.ask_refused_end.Reads as ask-refused-end-reads
-use Rattle.lines.proofs.put_line.put_ask_refused.Reads as put-ask-refused-reads
 use Rattle.lines.proofs.ask_refused_line.Goals as goal
 
 pub returns-in_default : goal.returns-in_default

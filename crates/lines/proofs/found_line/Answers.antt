@@ -1,10 +1,6 @@
 -- `lines::found_line` meets its contract. Assumes nothing.
 use mathlib.Core.Path.{sym, ◌∙◌}
 use Rattle.lines.proofs.Ends.{ended, placed_end, placed_short}
-use Rattle.lines.proofs.found_line.Reads as reads
-use Rattle.lines.proofs.found_line.Lts as lts
-use Rattle.lines.proofs.measure_line.found_end.Reads as found-end-reads
-use Rattle.lines.proofs.put_line.put_found.Reads as put-found-reads
 use Rattle.lines.proofs.found_line.Goals as goal
 
 pub returns-in_default : goal.returns-in_default

@@ -1,10 +1,6 @@
 -- `lines::near_line` meets its contract. Assumes nothing.
 use mathlib.Core.Path.{sym, ◌∙◌}
 use Rattle.lines.proofs.Ends.{ended, placed_end, placed_short}
-use Rattle.lines.proofs.near_line.Reads as reads
-use Rattle.lines.proofs.near_line.Lts as lts
-use Rattle.lines.proofs.measure_line.near_end.Reads as near-end-reads
-use Rattle.lines.proofs.put_line.put_near.Reads as put-near-reads
 use Rattle.lines.proofs.near_line.Goals as goal
 
 pub returns-in_default : goal.returns-in_default

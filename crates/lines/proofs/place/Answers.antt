@@ -1,10 +1,6 @@
 -- `lines::place` meets its contract. Assumes nothing.
 use mathlib.Core.Path.{sym, ◌∙◌}
 use Rattle.lines.proofs.Ends.{ended, placed_end, placed_short}
-use Rattle.lines.proofs.place.Reads as reads
-use Rattle.lines.proofs.place.Lts as lts
-use Rattle.lines.proofs.measure.advance.Reads as advance-reads
-use Rattle.lines.proofs.put.put_word.Reads as put-word-reads
 use Rattle.lines.proofs.place.Goals as goal
 
 pub returns-in_default : goal.returns-in_default

@@ -1,10 +1,6 @@
 -- `lines::set_line` meets its contract. Assumes nothing.
 use mathlib.Core.Path.{sym, ◌∙◌}
 use Rattle.lines.proofs.Ends.{ended, placed_end, placed_short}
-use Rattle.lines.proofs.set_line.Reads as reads
-use Rattle.lines.proofs.set_line.Lts as lts
-use Rattle.lines.proofs.measure_line.set_end.Reads as set-end-reads
-use Rattle.lines.proofs.put_line.put_set.Reads as put-set-reads
 use Rattle.lines.proofs.set_line.Goals as goal
 
 pub returns-in_default : goal.returns-in_default

@@ -1,10 +1,6 @@
 -- `lines::trail_line` meets its contract. Assumes nothing.
 use mathlib.Core.Path.{sym, ◌∙◌}
 use Rattle.lines.proofs.Ends.{ended, placed_end, placed_short}
-use Rattle.lines.proofs.trail_line.Reads as reads
-use Rattle.lines.proofs.trail_line.Lts as lts
-use Rattle.lines.proofs.measure_line.trail_end.Reads as trail-end-reads
-use Rattle.lines.proofs.put_line.put_trail.Reads as put-trail-reads
 use Rattle.lines.proofs.trail_line.Goals as goal
 
 pub returns-in_default : goal.returns-in_default

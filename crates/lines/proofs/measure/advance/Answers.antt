@@ -2,8 +2,6 @@
 use mathlib.Core.Path.{sym}
 use native.Mathlib.Omega.{arith}
 use Rattle.lines.proofs.Ends.{ends_in, ends_past}
-use Rattle.lines.proofs.measure.advance.Reads as reads
-use Rattle.lines.proofs.measure.advance.Lts as lts
 use Rattle.lines.proofs.measure.advance.Goals as goal
 
 pub returns-then-limit-at : goal.returns-then-limit-at

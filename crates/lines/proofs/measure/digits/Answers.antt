@@ -1,8 +1,6 @@
 use native.Mathlib.Omega.{arith}
 use borrow.Author.Rules.{rules}
-use Rattle.lines.proofs.Digits.{Counted, counted_start, counted_step, counted_few, counted_end}
-use Rattle.lines.proofs.measure.digits.Reads as reads
-use Rattle.lines.proofs.measure.digits.Lts as lts
+use Rattle.lines.proofs.Digits.{counted_start, counted_step, counted_few, counted_end}
 use Rattle.lines.proofs.measure.digits.Goals as goal
 
 pub loop-rest-init : goal.loop-rest-init

@@ -1,9 +1,5 @@
 -- `lines::measure::digits` meets its contract. Assumes nothing.
-use native.Mathlib.Omega.{arith}
-use borrow.Author.Rules.{rules}
-use Rattle.lines.proofs.Digits.{Counted, counted_start, counted_step, counted_few, counted_end}
-use Rattle.lines.proofs.measure.digits.Reads as reads
-use Rattle.lines.proofs.measure.digits.Lts as lts
+use Rattle.lines.proofs.Digits.{Counted}
 use Rattle.lines.proofs.measure.digits.Given as goal
 
 abbrev pub invariant-loop-rest : goal.invariant-loop-rest

@@ -1,11 +1,5 @@
 -- `lines::measure::pair_end` meets its contract. Assumes nothing.
 use Rattle.lines.proofs.Measured.{pair_measured}
-use Rattle.lines.proofs.measure.pair_end.Reads as reads
-use Rattle.lines.proofs.measure.pair_end.Lts as lts
-use Rattle.lines.proofs.measure.advance.Reads as advance-reads
-use Rattle.lines.proofs.measure.part_length.Reads as part-length-reads
-use Rattle.lines.proofs.measure.wide.Reads as wide-reads
-use Rattle.lines.proofs.measure.wider.Reads as wider-reads
 use Rattle.lines.proofs.measure.pair_end.Goals as goal
 
 pub returns : goal.returns

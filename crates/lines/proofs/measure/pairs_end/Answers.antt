@@ -1,17 +1,8 @@
-use Prim.Native.Nat.{◌-◌, ◌≤◌, min}
 use mathlib.Core.Path.{sym, ◌∙◌}
-use lib.ListN.{length, drop}
-use Rattle.rules.specs.Lines.{pairs}
-use Rattle.lines.proofs.Ends.{Ahead, ahead_start, ahead_step, ahead_short, ahead_end}
+use Rattle.lines.proofs.Ends.{ahead_start, ahead_step, ahead_short, ahead_end}
 use Rattle.lines.proofs.Runs.{pairs_next, pairs-done}
 use mathlib.Core.List.{[]}
-use mathlib.Core.Path.{◌≡◌}
 use native.Mathlib.Omega.{arith}
-use Rattle.lines.proofs.measure.pairs_end.Reads as reads
-use Rattle.lines.proofs.measure.pairs_end.Lts as lts
-use Rattle.lines.proofs.measure.advance.Reads as advance-reads
-use Rattle.lines.proofs.measure.fewer.Reads as fewer_reads
-use Rattle.lines.proofs.measure.pair_end.Reads as pair-end-reads
 use Rattle.lines.proofs.measure.pairs_end.Goals as goal
 
 pub loop-i-init : goal.loop-i-init

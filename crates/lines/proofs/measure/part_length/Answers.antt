@@ -1,8 +1,5 @@
 -- `lines::measure::part_length` meets its contract. Assumes nothing.
 use Rattle.lines.proofs.Lengths.{part-length_of}
-use Rattle.lines.proofs.measure.part_length.Reads as reads
-use Rattle.lines.proofs.measure.part_length.Lts as lts
-use Rattle.lines.proofs.measure.digits.Reads as digits-reads
 use Rattle.lines.proofs.measure.part_length.Goals as goal
 
 pub returns : goal.returns

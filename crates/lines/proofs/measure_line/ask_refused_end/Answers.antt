@@ -1,9 +1,5 @@
 -- `lines::measure_line::ask_refused_end` meets its contract. Assumes nothing.
 use Rattle.lines.proofs.Measured.{ask-refused_measured}
-use Rattle.lines.proofs.measure_line.ask_refused_end.Reads as reads
-use Rattle.lines.proofs.measure_line.ask_refused_end.Lts as lts
-use Rattle.lines.proofs.measure.advance.Reads as advance-reads
-use Rattle.lines.proofs.measure.part_length.Reads as part-length-reads
 use Rattle.lines.proofs.measure_line.ask_refused_end.Goals as goal
 
 pub returns : goal.returns

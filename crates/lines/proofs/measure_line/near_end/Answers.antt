@@ -2,10 +2,6 @@
 use mathlib.Core.Path.{sym, ◌∙◌}
 use Rattle.lines.proofs.Lengths.{near_length}
 use Rattle.lines.proofs.Measured.{longer_short, near_measured}
-use Rattle.lines.proofs.measure_line.near_end.Reads as reads
-use Rattle.lines.proofs.measure_line.near_end.Lts as lts
-use Rattle.lines.proofs.measure.advance.Reads as advance-reads
-use Rattle.lines.proofs.measure.pairs_end.Reads as pairs-end-reads
 use Rattle.lines.proofs.measure_line.near_end.Goals as goal
 
 pub returns-in_default : goal.returns-in_default

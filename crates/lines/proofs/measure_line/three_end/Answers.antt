@@ -1,11 +1,6 @@
 -- `lines::measure_line::three_end` meets its contract. Assumes nothing.
 use mathlib.Core.Path.{sym, ◌∙◌}
 use Rattle.lines.proofs.Measured.{first_short, second_short, three_end}
-use Rattle.lines.proofs.measure_line.three_end.Reads as reads
-use Rattle.lines.proofs.measure_line.three_end.Lts as lts
-use Rattle.lines.proofs.measure_line.found_end.Reads as found-end-reads
-use Rattle.lines.proofs.measure_line.near_end.Reads as near-end-reads
-use Rattle.lines.proofs.measure_line.trail_end.Reads as trail-end-reads
 use Rattle.lines.proofs.measure_line.three_end.Goals as goal
 
 pub returns-in_default : goal.returns-in_default

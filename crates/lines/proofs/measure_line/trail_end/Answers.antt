@@ -2,10 +2,6 @@
 use mathlib.Core.Path.{sym, ◌∙◌}
 use Rattle.lines.proofs.Lengths.{trail-length}
 use Rattle.lines.proofs.Measured.{longer_short, trail_measured}
-use Rattle.lines.proofs.measure_line.trail_end.Reads as reads
-use Rattle.lines.proofs.measure_line.trail_end.Lts as lts
-use Rattle.lines.proofs.measure.advance.Reads as advance-reads
-use Rattle.lines.proofs.measure.parts_end.Reads as parts-end-reads
 use Rattle.lines.proofs.measure_line.trail_end.Goals as goal
 
 pub returns-in_default : goal.returns-in_default

@@ -1,10 +1,6 @@
 use Rattle.lines.proofs.Digits.{length_some}
-use Rattle.lines.proofs.Puts.{Decimals, decimals_start, decimals_step, decimals_more, decimals_room, decimals_end}
+use Rattle.lines.proofs.Puts.{decimals_start, decimals_step, decimals_more, decimals_room, decimals_end}
 use native.Mathlib.Omega.{arith}
-use Rattle.lines.proofs.put.put_decimal.Reads as reads
-use Rattle.lines.proofs.put.put_decimal.Lts as lts
-use Rattle.lines.proofs.measure.digits.Reads as digits-reads
-use Rattle.lines.proofs.put.digit.Reads as digit-reads
 use Rattle.lines.proofs.put.put_decimal.Goals as goal
 
 pub overflow_add-end : goal.overflow_add-end

@@ -1,7 +1,5 @@
 -- `lines::put::put_end` meets its contract. Assumes nothing.
 use Rattle.lines.proofs.Puts.{put_byte}
-use Rattle.lines.proofs.put.put_end.Reads as reads
-use Rattle.lines.proofs.put.put_end.Lts as lts
 use Rattle.lines.proofs.put.put_end.Goals as goal
 
 pub returns : goal.returns

@@ -3,10 +3,6 @@ use native.Mathlib.Omega.{arith}
 use lib.ListN.{length-append}
 use Rattle.rules.specs.Lines.{part}
 use Rattle.lines.proofs.Puts.{puts}
-use Rattle.lines.proofs.put.put_named.Reads as reads
-use Rattle.lines.proofs.put.put_named.Lts as lts
-use Rattle.lines.proofs.put.put_part.Reads as put-part-reads
-use Rattle.lines.proofs.put.put_word.Reads as put-word-reads
 use Rattle.lines.proofs.put.put_named.Goals as goal
 
 pub put_word-x_at-requires : goal.put_word-x_at-requires

@@ -5,11 +5,6 @@ use mathlib.Core.Path.{ap}
 use lib.ListN.{length, length-append}
 use Rattle.rules.specs.Lines.{part}
 use Rattle.lines.proofs.Puts.{puts, put_as}
-use Rattle.lines.proofs.put.put_pair.Reads as reads
-use Rattle.lines.proofs.put.put_pair.Lts as lts
-use Rattle.lines.proofs.measure.wide.Reads as wide-reads
-use Rattle.lines.proofs.measure.wider.Reads as wider-reads
-use Rattle.lines.proofs.put.put_part.Reads as put-part-reads
 use Rattle.lines.proofs.put.put_pair.Goals as goal
 
 pub put_part-distance_at-requires : goal.put_part-distance_at-requires

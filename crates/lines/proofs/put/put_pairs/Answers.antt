@@ -1,13 +1,5 @@
-use Prim.Native.Nat.{◌-◌, ◌≤◌, min}
-use mathlib.Core.Path.{◌≡◌}
-use lib.ListN.{length, drop}
-use Rattle.rules.specs.Lines.{pairs}
-use Rattle.lines.proofs.Runs.{Left, left_start, left_room, left_step, left_end, pairs_next, pairs-done}
+use Rattle.lines.proofs.Runs.{left_start, left_room, left_step, left_end, pairs_next, pairs-done}
 use native.Mathlib.Omega.{arith}
-use Rattle.lines.proofs.put.put_pairs.Reads as reads
-use Rattle.lines.proofs.put.put_pairs.Lts as lts
-use Rattle.lines.proofs.measure.fewer.Reads as fewer_reads
-use Rattle.lines.proofs.put.put_pair.Reads as put-pair-reads
 use Rattle.lines.proofs.put.put_pairs.Goals as goal
 
 pub loop-i-init : goal.loop-i-init

@@ -4,9 +4,6 @@ use lib.ListN.{length-set}
 use Rattle.lines.proofs.Digits.{length_part}
 use Rattle.lines.proofs.Puts.{part_end}
 use native.Mathlib.Omega.{arith}
-use Rattle.lines.proofs.put.put_part.Reads as reads
-use Rattle.lines.proofs.put.put_part.Lts as lts
-use Rattle.lines.proofs.put.put_decimal.Reads as put-decimal-reads
 use Rattle.lines.proofs.put.put_part.Goals as goal
 
 pub bounds-output-at : goal.bounds-output-at

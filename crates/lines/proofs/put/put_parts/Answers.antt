@@ -1,14 +1,10 @@
-use Prim.Native.Nat.{ℕ, ◌-◌, ◌≤◌}
+use Prim.Native.Nat.{ℕ}
 use mathlib.Core.Path.{ap}
-use lib.ListN.{length, drop}
-use Rattle.rules.specs.Lines.{part, parts}
+use lib.ListN.{length}
+use Rattle.rules.specs.Lines.{part}
 use Rattle.lines.proofs.Puts.{put_as}
-use Rattle.lines.proofs.Runs.{Left, left_start, left_room, left_step, left_end, parts_next, parts-done}
+use Rattle.lines.proofs.Runs.{left_start, left_room, left_step, left_end, parts_next, parts-done}
 use native.Mathlib.Omega.{arith}
-use Rattle.lines.proofs.put.put_parts.Reads as reads
-use Rattle.lines.proofs.put.put_parts.Lts as lts
-use Rattle.lines.proofs.measure.wide.Reads as wide-reads
-use Rattle.lines.proofs.put.put_part.Reads as put-part-reads
 use Rattle.lines.proofs.put.put_parts.Goals as goal
 
 pub loop-i-init : goal.loop-i-init

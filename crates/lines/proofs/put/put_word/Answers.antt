@@ -1,11 +1,7 @@
-use Prim.Native.Nat.{◌-◌, ◌≤◌}
-use lib.ListN.{length}
 use mathlib.Core.Path.{refl}
 use native.Mathlib.Nat.{le_antisymm}
 use native.Mathlib.Omega.{arith}
-use Rattle.lines.proofs.Puts.{Copied, copied_start, copied_step, copied_end}
-use Rattle.lines.proofs.put.put_word.Reads as reads
-use Rattle.lines.proofs.put.put_word.Lts as lts
+use Rattle.lines.proofs.Puts.{copied_start, copied_step, copied_end}
 use Rattle.lines.proofs.put.put_word.Goals as goal
 
 pub loop-i-init : goal.loop-i-init

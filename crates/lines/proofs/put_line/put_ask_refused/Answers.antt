@@ -2,10 +2,6 @@
 use Rattle.rules.specs.Lines.{ask_refused_line}
 use Rattle.lines.proofs.Puts.{puts}
 use Rattle.lines.proofs.Rooms.{ask-refused_1, ask-refused_2, ask-refused_end}
-use Rattle.lines.proofs.put_line.put_ask_refused.Reads as reads
-use Rattle.lines.proofs.put_line.put_ask_refused.Lts as lts
-use Rattle.lines.proofs.put.put_end.Reads as put-end-reads
-use Rattle.lines.proofs.put.put_named.Reads as put-named-reads
 use Rattle.lines.proofs.put_line.put_ask_refused.Goals as goal
 
 pub put_named-refused_at-requires : goal.put_named-refused_at-requires

@@ -2,10 +2,6 @@
 use Rattle.rules.specs.Lines.{found_line}
 use Rattle.lines.proofs.Puts.{puts}
 use Rattle.lines.proofs.Rooms.{found_1, found_2, found_3, found_4, found_end}
-use Rattle.lines.proofs.put_line.put_found.Reads as reads
-use Rattle.lines.proofs.put_line.put_found.Lts as lts
-use Rattle.lines.proofs.put.put_end.Reads as put-end-reads
-use Rattle.lines.proofs.put.put_named.Reads as put-named-reads
 use Rattle.lines.proofs.put_line.put_found.Goals as goal
 
 pub put_named-found_at-requires : goal.put_named-found_at-requires

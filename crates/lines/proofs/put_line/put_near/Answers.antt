@@ -2,11 +2,6 @@
 use Rattle.rules.specs.Lines.{near_line}
 use Rattle.lines.proofs.Puts.{puts}
 use Rattle.lines.proofs.Rooms.{near_1, near_2, near_end}
-use Rattle.lines.proofs.put_line.put_near.Reads as reads
-use Rattle.lines.proofs.put_line.put_near.Lts as lts
-use Rattle.lines.proofs.put.put_end.Reads as put-end-reads
-use Rattle.lines.proofs.put.put_pairs.Reads as put-pairs-reads
-use Rattle.lines.proofs.put.put_word.Reads as put-word-reads
 use Rattle.lines.proofs.put_line.put_near.Goals as goal
 
 pub put_word-pairs_at-requires : goal.put_word-pairs_at-requires

@@ -2,10 +2,6 @@
 use Rattle.rules.specs.Lines.{refused_line}
 use Rattle.lines.proofs.Puts.{puts}
 use Rattle.lines.proofs.Rooms.{refused_1, refused_end}
-use Rattle.lines.proofs.put_line.put_refused.Reads as reads
-use Rattle.lines.proofs.put_line.put_refused.Lts as lts
-use Rattle.lines.proofs.put.put_end.Reads as put-end-reads
-use Rattle.lines.proofs.put.put_named.Reads as put-named-reads
 use Rattle.lines.proofs.put_line.put_refused.Goals as goal
 
 pub put_named-end-requires : goal.put_named-end-requires

@@ -2,11 +2,6 @@
 use Rattle.rules.specs.Lines.{set_line}
 use Rattle.lines.proofs.Puts.{puts}
 use Rattle.lines.proofs.Rooms.{set_1, set_2, set_3, set_end}
-use Rattle.lines.proofs.put_line.put_set.Reads as reads
-use Rattle.lines.proofs.put_line.put_set.Lts as lts
-use Rattle.lines.proofs.put.put_end.Reads as put-end-reads
-use Rattle.lines.proofs.put.put_named.Reads as put-named-reads
-use Rattle.lines.proofs.put.put_part.Reads as put-part-reads
 use Rattle.lines.proofs.put_line.put_set.Goals as goal
 
 pub put_named-d_at-requires : goal.put_named-d_at-requires

@@ -2,11 +2,6 @@
 use Rattle.lines.specs.Placing.{three_lines}
 use Rattle.lines.proofs.Puts.{puts}
 use Rattle.lines.proofs.Rooms.{three_1, three_2, three_3}
-use Rattle.lines.proofs.put_line.put_three.Reads as reads
-use Rattle.lines.proofs.put_line.put_three.Lts as lts
-use Rattle.lines.proofs.put_line.put_found.Reads as put-found-reads
-use Rattle.lines.proofs.put_line.put_near.Reads as put-near-reads
-use Rattle.lines.proofs.put_line.put_trail.Reads as put-trail-reads
 use Rattle.lines.proofs.put_line.put_three.Goals as goal
 
 pub put_found-near_at-requires : goal.put_found-near_at-requires

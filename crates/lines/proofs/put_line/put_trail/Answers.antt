@@ -2,11 +2,6 @@
 use Rattle.rules.specs.Lines.{trail_line}
 use Rattle.lines.proofs.Puts.{puts}
 use Rattle.lines.proofs.Rooms.{trail_1, trail_2, trail_end}
-use Rattle.lines.proofs.put_line.put_trail.Reads as reads
-use Rattle.lines.proofs.put_line.put_trail.Lts as lts
-use Rattle.lines.proofs.put.put_end.Reads as put-end-reads
-use Rattle.lines.proofs.put.put_parts.Reads as put-parts-reads
-use Rattle.lines.proofs.put.put_word.Reads as put-word-reads
 use Rattle.lines.proofs.put_line.put_trail.Goals as goal
 
 pub put_word-ids_at-requires : goal.put_word-ids_at-requires
