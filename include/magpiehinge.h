@@ -1,4 +1,4 @@
-/* Magpiehinge, the reference searcher, for C. Link with libcabi.a, made by `rt staticlib cabi`.
+/* Magpiehinge, the reference searcher, for C. Link with libcabi.a, made by `tools/build archive`.
  *
  * Every function takes all input as it comes. A slice is a pointer and the number of its elements; a pointer is not null, even where the number is 0.
  * Every function but the distance returns a refusal number, 0 for none, always the first of its order that applies. A refusal changes no lent cell.

@@ -1,11 +1,11 @@
-// Links the archive that `rt staticlib cabi` writes at the repository's root.
+// Links the archive that `tools/build archive` writes at the repository's root.
 use std::path::PathBuf;
 
 fn main() {
     let root = PathBuf::from(env!("CARGO_MANIFEST_DIR")).join("../..");
     let archive = root.join("target/staticlib");
     if !archive.join("libcabi.a").exists() {
-        panic!("target/staticlib/libcabi.a is missing: run `rt staticlib cabi` at the repository's root first");
+        panic!("target/staticlib/libcabi.a is missing: run `tools/build archive` at the repository's root first");
     }
     println!("cargo:rustc-link-search=native={}", archive.display());
     println!("cargo:rustc-link-lib=static=cabi");

@@ -1,6 +1,6 @@
 /* Builds the label table of four points in the plane, searches it once and prints what was found.
  *
- * At the repository's root, once `rt staticlib cabi` has made the archive:
+ * At the repository's root, once `tools/build archive` has made the archive:
  *
  *   gcc -std=c99 -Wall -Iinclude -o target/nearest examples/c/nearest.c target/staticlib/libcabi.a && target/nearest
  */

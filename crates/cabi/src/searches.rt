@@ -6,8 +6,7 @@ ghost use Rattle.cabi.specs.Plain.{number_of, cell_after};
 use search::Searched;
 
 // A search of a table: ids, squared distances and trail in their buffers, and the three counts.
-#[unsafe(no_mangle)]
-pub extern "C" fn magpiehinge_search(
+pub fn magpiehinge_search(
     n: usize,
     d: usize,
     vectors: &[i8],

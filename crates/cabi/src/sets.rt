@@ -6,8 +6,7 @@ ghost use Rattle.rules.specs.Refusals.{point_refusal, build_refusal};
 ghost use Rattle.rules.specs.Entries.{table_after};
 
 // Where the coordinates of a point start in the vectors, and how many there are.
-#[unsafe(no_mangle)]
-pub extern "C" fn magpiehinge_point(
+pub fn magpiehinge_point(
     n: usize,
     d: usize,
     vectors: &[i8],
@@ -28,16 +27,14 @@ pub extern "C" fn magpiehinge_point(
 }
 
 // D of two points, over the pairs that both have, at most 64.
-#[unsafe(no_mangle)]
-pub extern "C" fn magpiehinge_distance(a: &[i8], b: &[i8]) -> u32
+pub fn magpiehinge_distance(a: &[i8], b: &[i8]) -> u32
     ensures { result ≡ dist (take 64 a.now) (take 64 b.now) }
 {
     space::distance(a, b)
 }
 
 // The label table of a set, into n × n cells.
-#[unsafe(no_mangle)]
-pub extern "C" fn magpiehinge_build(n: usize, d: usize, vectors: &[i8], table: &mut [u16]) -> u8
+pub fn magpiehinge_build(n: usize, d: usize, vectors: &[i8], table: &mut [u16]) -> u8
     ensures refusal { result ≡ build_refusal n d (length vectors.now) (length table.old) }
     ensures table { table.new ≡ table_after n d vectors.now table.old }
 {

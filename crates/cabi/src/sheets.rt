@@ -8,8 +8,7 @@ ghost use Rattle.cabi.specs.Plain.{number_of, cell_after};
 use sheet::{Asked, Headed, Written};
 
 // Writes a sheet. `written` becomes its length.
-#[unsafe(no_mangle)]
-pub extern "C" fn magpiehinge_write(
+pub fn magpiehinge_write(
     n: usize,
     d: usize,
     c: usize,
@@ -38,8 +37,7 @@ pub extern "C" fn magpiehinge_write(
 }
 
 // Reads n, d, the coordinate width and the ask count of a sheet.
-#[unsafe(no_mangle)]
-pub extern "C" fn magpiehinge_header(
+pub fn magpiehinge_header(
     sheet: &[u8],
     n: &mut usize,
     d: &mut usize,
@@ -49,7 +47,7 @@ pub extern "C" fn magpiehinge_header(
     ensures refusal { result ≡ number_of (header_answer sheet.now) }
     ensures n { n.new ≡ cell_after (header_answer sheet.now) (λ c. c.n) n.old }
     ensures d { d.new ≡ cell_after (header_answer sheet.now) (λ c. c.d) d.old }
-    ensures c { c.exit.now ≡ cell_after (header_answer sheet.now) (λ c. c.c) c.entry.now }
+    ensures c { c.new ≡ cell_after (header_answer sheet.now) (λ c. c.c) c.old }
     ensures asks { asks.new ≡ cell_after (header_answer sheet.now) (λ c. c.asks) asks.old }
 {
     let answer = sheet::header(sheet);
@@ -66,16 +64,14 @@ pub extern "C" fn magpiehinge_header(
 }
 
 // Reads the vectors of a sheet into n × d cells.
-#[unsafe(no_mangle)]
-pub extern "C" fn magpiehinge_vectors(sheet: &[u8], buffer: &mut [i8]) -> u8
+pub fn magpiehinge_vectors(sheet: &[u8], buffer: &mut [i8]) -> u8
     ensures { (result ≡ vectors_refusal sheet.now (length buffer.old)) × (buffer.new ≡ vectors_after sheet.now buffer.old) }
 {
     sheet::vectors(sheet, buffer)
 }
 
 // Reads one ask of a sheet: its four numbers, and its query into d cells.
-#[unsafe(no_mangle)]
-pub extern "C" fn magpiehinge_ask(
+pub fn magpiehinge_ask(
     sheet: &[u8],
     number: u16,
     query: &mut [i8],

@@ -7,8 +7,7 @@ ghost use Rattle.cabi.specs.Plain.{number_of, cell_after, moved_bit};
 use walk::{Answer, Walked};
 
 // One step of a walk record, current and moves. `moved` becomes 1 for "moved" and 0 for "at end".
-#[unsafe(no_mangle)]
-pub extern "C" fn magpiehinge_step(
+pub fn magpiehinge_step(
     n: usize,
     d: usize,
     vectors: &[i8],
@@ -46,8 +45,7 @@ pub extern "C" fn magpiehinge_step(
 }
 
 // The whole walk from a start: the last id, its D and the moves.
-#[unsafe(no_mangle)]
-pub extern "C" fn magpiehinge_walk(
+pub fn magpiehinge_walk(
     n: usize,
     d: usize,
     vectors: &[i8],
