@@ -23,7 +23,7 @@ pub loop-key-preserved : goal.loop-key-preserved
 loop-key-preserved c =
     let pre = c.requires.u_lt_n in
     let e = c.settle.ensures in
-    going_turn pre.1 pre.0 c.loop-key.invariant c.loop-key-test.true e.1.0 e.0 e.1.1 c.first_key-key-in-loop-key.ensures
+    going_turn pre.1 pre.0 c.loop-key.invariant c.loop-key-test.true e.left_after e.sofar_2 e.table_after c.first_key-key-in-loop-key.ensures
 
 pub shape_of-table : goal.shape_of-table
 shape_of-table c = c.loop-key.invariant.long

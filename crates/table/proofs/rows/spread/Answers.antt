@@ -7,9 +7,6 @@ use Rattle.table.specs.Rows.{led}
 use Rattle.table.proofs.Mapped.{Mapped, mapped_none, mapped_more}
 use Rattle.table.proofs.rows.spread.Goals as goal
 
-abbrev by : List ℕ → ℕ → ℕ → ℕ → ℕ → ℕ
-by b u v x least = led (far b u v) (far b u x) (far b v x) least
-
 pub loop-x-init : goal.loop-x-init
 loop-x-init c = (omega arith, mapped_none)
 

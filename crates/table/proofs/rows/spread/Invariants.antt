@@ -8,6 +8,10 @@ use Rattle.table.specs.Rows.{led}
 use Rattle.table.proofs.Mapped.{Mapped, mapped_none, mapped_more}
 use Rattle.table.proofs.rows.spread.Given as goal
 
+-- the least distance to x from a point that leads, once v leads too
+abbrev by : List ℕ → ℕ → ℕ → ℕ → ℕ → ℕ
+by b u v x least = led (far b u v) (far b u x) (far b v x) least
+
 abbrev pub invariant-loop-x : goal.invariant-loop-x
 invariant-loop-x l =
     (l.x ≤ 128) × Mapped (by l.between l.u l.v) l.x l.initial.lead l.lead
