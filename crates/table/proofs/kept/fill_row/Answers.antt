@@ -1,11 +1,8 @@
-use Prim.Native.Nat.{ℕ, ◌+◌, ◌-◌, ◌≤◌, ◌<◌}
+use Prim.Native.Nat.{ℕ, ◌<◌}
 use mathlib.Core.Path.{◌≡◌, ◌∙◌}
 use native.Mathlib.Omega.{arith}
-use Rattle.rules.specs.Points.{apart}
 use Rattle.rules.specs.Refusals.{set_refusal}
-use Rattle.rules.specs.Entries.{point_of}
 use Rattle.laws.proofs.Refusals.{set_ok}
-use Rattle.table.specs.Kept.{Filled, Begun}
 use Rattle.table.proofs.Filling.{begun_none, fill_turn, filled_row, apart_comm, pair_is}
 use Rattle.table.proofs.kept.fill_row.Goals as goal
 
@@ -34,7 +31,7 @@ loop-v-preserved c =
     let lu = c.requires.u_lt_n.0 in
     let back = pair_is _ _ _ _ _ _ m.result ok lu (omega arith) i.1 m.ensures.value in
     let next =
-        fill_turn i.2 i.3 (few _ _ _ _ ok lu) (omega arith) (back ∙ apart_comm _ _ _ _) back m.ensures.bounded c.put_both.ensures in
+    fill_turn i.2 i.3 (few _ _ _ _ ok lu) (omega arith) (back ∙ apart_comm _ _ _ _) back m.ensures.bounded c.put_both.ensures in
     (omega arith, i.1, next.0, next.1)
 
 pub returns : goal.returns

@@ -1,10 +1,7 @@
-use Prim.Native.Nat.{ℕ, ◌-◌, ◌≤◌}
 use mathlib.Core.Path.{◌∙◌}
-use mathlib.Core.List.{List}
 use native.Mathlib.Omega.{arith}
 use Rattle.table.specs.Kept.{far}
-use Rattle.table.specs.Rows.{led}
-use Rattle.table.proofs.Mapped.{Mapped, mapped_none, mapped_more}
+use Rattle.table.proofs.Mapped.{mapped_none, mapped_more}
 use Rattle.table.proofs.rows.spread.Goals as goal
 
 pub loop-x-init : goal.loop-x-init
