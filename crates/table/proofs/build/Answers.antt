@@ -10,15 +10,15 @@ returns-then-refusal-eq0 c =
     let r = c.build_refusal-refusal in
     let none = c.if-refusal-eq0.true in
     record {
-  value = r.ensures;
-  written = c.write.ensures ∙ sym (after_new (sym r.ensures ∙ none) _ _);
-}
+      value = r.ensures;
+      written = c.write.ensures ∙ sym (after_new (sym r.ensures ∙ none) _ _);
+    }
 
 pub returns-else-refusal-eq0 : goal.returns-else-refusal-eq0
 unfolding table_after
 returns-else-refusal-eq0 c =
     let r = c.build_refusal-refusal in
     record {
-  value = r.ensures;
-  written = sym (after_old (λ e. c.if-refusal-eq0.false (r.ensures ∙ e)) _ _);
-}
+      value = r.ensures;
+      written = sym (after_old (λ e. c.if-refusal-eq0.false (r.ensures ∙ e)) _ _);
+    }

@@ -1,7 +1,5 @@
-use Prim.Native.Nat.{min, ◌*◌}
-use mathlib.Core.Path.{◌≡◌}
 use native.Mathlib.Omega.{arith}
-use Rattle.table.proofs.Halving.{Halved, halved_start, halved_turn, label_halved}
+use Rattle.table.proofs.Halving.{halved_start, halved_turn, label_halved}
 use Rattle.table.proofs.label.Goals as goal
 
 pub loop-width-init : goal.loop-width-init

@@ -1,8 +1,7 @@
 -- `table::label` meets its contract: halving, with the width as the measure. Assumes nothing.
 use Prim.Native.Nat.{min, ◌*◌}
 use mathlib.Core.Path.{◌≡◌}
-use native.Mathlib.Omega.{arith}
-use Rattle.table.proofs.Halving.{Halved, halved_start, halved_turn, label_halved}
+use Rattle.table.proofs.Halving.{Halved}
 use Rattle.table.proofs.label.Given as goal
 
 abbrev pub invariant-loop-width : goal.invariant-loop-width

@@ -1,8 +1,5 @@
-use Prim.Native.Nat.{◌-◌, ◌≤◌}
 use native.Mathlib.Nat.{le_antisymm}
 use native.Mathlib.Omega.{arith}
-use Rattle.rules.specs.Points.{apart}
-use Rattle.table.specs.Kept.{Filled}
 use Rattle.table.proofs.Filling.{filled_none}
 use Rattle.table.proofs.kept.fill.Goals as goal
 

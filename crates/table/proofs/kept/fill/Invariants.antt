@@ -1,10 +1,7 @@
 -- `table::kept::fill` meets its contract. Assumes nothing.
 use Prim.Native.Nat.{◌-◌, ◌≤◌}
-use native.Mathlib.Nat.{le_antisymm}
-use native.Mathlib.Omega.{arith}
 use Rattle.rules.specs.Points.{apart}
 use Rattle.table.specs.Kept.{Filled}
-use Rattle.table.proofs.Filling.{filled_none}
 use Rattle.table.proofs.kept.fill.Given as goal
 
 abbrev pub invariant-loop-u : goal.invariant-loop-u

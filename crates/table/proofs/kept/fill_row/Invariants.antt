@@ -1,12 +1,9 @@
 -- `table::kept::fill_row` meets its contract: the ids before u have their distances, and so has u with those passed. Assumes nothing.
-use Prim.Native.Nat.{◌+◌, ◌-◌, ◌≤◌, ◌<◌}
-use mathlib.Core.Path.{◌≡◌, ◌∙◌}
-use native.Mathlib.Omega.{arith}
+use Prim.Native.Nat.{◌+◌, ◌-◌, ◌≤◌}
+use mathlib.Core.Path.{◌≡◌}
 use Rattle.rules.specs.Points.{apart}
 use Rattle.rules.specs.Entries.{point_of}
-use Rattle.laws.proofs.Refusals.{set_ok}
 use Rattle.table.specs.Kept.{Filled, Begun}
-use Rattle.table.proofs.Filling.{begun_none, fill_turn, filled_row, apart_comm, pair_is}
 use Rattle.table.proofs.kept.fill_row.Given as goal
 
 abbrev pub invariant-loop-v : goal.invariant-loop-v

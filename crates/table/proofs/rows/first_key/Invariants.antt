@@ -1,8 +1,6 @@
 -- `table::rows::first_key` meets its contract: the loop keeps the least of the keys passed. Assumes nothing.
 use Prim.Native.Nat.{◌-◌, ◌≤◌}
-use mathlib.Core.Path.{◌≡◌, refl, ◌∙◌}
-use native.Mathlib.Numerals.{add-one}
-use native.Mathlib.Omega.{arith}
+use mathlib.Core.Path.{◌≡◌}
 use Rattle.table.specs.Rows.{lowest}
 use Rattle.table.proofs.rows.first_key.Given as goal
 

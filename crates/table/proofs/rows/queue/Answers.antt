@@ -1,10 +1,9 @@
-use Prim.Native.Nat.{◌-◌, ◌≤◌}
 use mathlib.Core.Path.{refl}
 use native.Mathlib.Omega.{arith}
 use Rattle.rules.specs.Order.{keyed}
 use Rattle.table.specs.Kept.{far}
-use Rattle.table.proofs.Mapped.{Mapped, mapped_none, mapped_more}
-use Rattle.table.proofs.Starting.{key_of, replicated, queued}
+use Rattle.table.proofs.Mapped.{mapped_none, mapped_more}
+use Rattle.table.proofs.Starting.{replicated, queued}
 use Rattle.table.proofs.rows.queue.Goals as goal
 
 pub loop-v-init : goal.loop-v-init

@@ -1,11 +1,8 @@
 -- `table::rows::queue` meets its contract: the places passed hold the keys. Assumes nothing.
 use Prim.Native.Nat.{◌-◌, ◌≤◌}
-use mathlib.Core.Path.{refl}
-use native.Mathlib.Omega.{arith}
-use Rattle.rules.specs.Order.{keyed}
 use Rattle.table.specs.Kept.{far}
-use Rattle.table.proofs.Mapped.{Mapped, mapped_none, mapped_more}
-use Rattle.table.proofs.Starting.{key_of, replicated, queued}
+use Rattle.table.proofs.Mapped.{Mapped}
+use Rattle.table.proofs.Starting.{key_of}
 use Rattle.table.proofs.rows.queue.Given as goal
 
 abbrev pub invariant-loop-v : goal.invariant-loop-v

@@ -9,9 +9,9 @@ settle_all-requires c =
     let p = c.requires in
     let q = c.queue.ensures in
     record {
-  u_lt_n = (p.0, p.1);
-  sofar = (sofar_none p.1 p.0 q refl, written_none c.args.table.now p.1 p.0 p.2 q);
-}
+      u_lt_n = (p.0, p.1);
+      sofar = (sofar_none p.1 p.0 q refl, written_none c.args.table.now p.1 p.0 p.2 q);
+    }
 
 pub shape_of-table : goal.shape_of-table
 shape_of-table c =

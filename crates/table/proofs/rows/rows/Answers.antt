@@ -1,8 +1,6 @@
-use Prim.Native.Nat.{◌-◌, ◌≤◌}
 use mathlib.Core.Path.{sym, ◌∙◌}
 use native.Mathlib.Omega.{arith}
-use Rattle.table.specs.Kept.{far}
-use Rattle.table.proofs.Whole.{RowsIn, rows_none, row_room, rows_more, rows_end}
+use Rattle.table.proofs.Whole.{rows_none, row_room, rows_more, rows_end}
 use Rattle.table.proofs.rows.rows.Goals as goal
 
 pub loop-u-init : goal.loop-u-init

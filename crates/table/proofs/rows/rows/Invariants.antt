@@ -1,9 +1,7 @@
 -- `table::rows::rows` meets its contract: the rows passed are written. Assumes nothing.
 use Prim.Native.Nat.{◌-◌, ◌≤◌}
-use mathlib.Core.Path.{sym, ◌∙◌}
-use native.Mathlib.Omega.{arith}
 use Rattle.table.specs.Kept.{far}
-use Rattle.table.proofs.Whole.{RowsIn, rows_none, row_room, rows_more, rows_end}
+use Rattle.table.proofs.Whole.{RowsIn}
 use Rattle.table.proofs.rows.rows.Given as goal
 
 abbrev pub invariant-loop-u : goal.invariant-loop-u

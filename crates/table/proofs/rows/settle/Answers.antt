@@ -19,17 +19,17 @@ returns-then-is_direct c =
     let p = c.requires.sofar in
     let d = sym c.is_direct.ensures ∙ c.if-is_direct.true in
     let e = first_cell c.requires.u_lt_n.1 c.requires.u_lt_n.0 p.0 p.1 p.2 c.cell_by.ensures in record {
-  sofar_2 = first-leads c.requires.u_lt_n.1 c.requires.u_lt_n.0 p.0 p.1 p.2 d c.spread.ensures;
-  left_after = refl;
-  table_after = ap (set c.args.table.now (c.args.at + c.args.key % 128)) e;
-}
+      sofar_2 = first-leads c.requires.u_lt_n.1 c.requires.u_lt_n.0 p.0 p.1 p.2 d c.spread.ensures;
+      left_after = refl;
+      table_after = ap (set c.args.table.now (c.args.at + c.args.key % 128)) e;
+    }
 
 pub returns-else-is_direct : goal.returns-else-is_direct
 returns-else-is_direct c =
     let p = c.requires.sofar in
     let d = sym c.is_direct.ensures ∙ c.if-is_direct.false in
     let e = first_cell c.requires.u_lt_n.1 c.requires.u_lt_n.0 p.0 p.1 p.2 c.cell_by.ensures in record {
-  sofar_2 = first_stays c.requires.u_lt_n.1 c.requires.u_lt_n.0 p.0 p.1 p.2 d;
-  left_after = refl;
-  table_after = ap (set c.args.table.now (c.args.at + c.args.key % 128)) e;
-}
+      sofar_2 = first_stays c.requires.u_lt_n.1 c.requires.u_lt_n.0 p.0 p.1 p.2 d;
+      left_after = refl;
+      table_after = ap (set c.args.table.now (c.args.at + c.args.key % 128)) e;
+    }

@@ -1,6 +1,6 @@
 -- `table::rows::settle_all` meets its contract. The measure is how many wait. Assumes nothing.
 use Rattle.table.specs.Kept.{far}
-use Rattle.table.proofs.Turns.{waiting, Going, going_start, going_turn, going_less, going_end}
+use Rattle.table.proofs.Turns.{waiting, Going}
 use Rattle.table.proofs.rows.settle_all.Given as goal
 
 abbrev pub invariant-loop-key : goal.invariant-loop-key

@@ -1,14 +1,8 @@
-use Prim.Native.Nat.{ℕ, ◌-◌, ◌≤◌}
 use mathlib.Core.Path.{◌∙◌}
-use mathlib.Core.List.{List}
 use native.Mathlib.Omega.{arith}
 use Rattle.table.specs.Kept.{far}
-use Rattle.table.specs.Rows.{led}
-use Rattle.table.proofs.Mapped.{Mapped, mapped_none, mapped_more}
+use Rattle.table.proofs.Mapped.{mapped_none, mapped_more}
 use Rattle.table.proofs.rows.spread.Goals as goal
-
-abbrev by : List ℕ → ℕ → ℕ → ℕ → ℕ → ℕ
-by b u v x least = led (far b u v) (far b u x) (far b v x) least
 
 pub loop-x-init : goal.loop-x-init
 loop-x-init c = (omega arith, mapped_none)
