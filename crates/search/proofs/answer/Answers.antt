@@ -69,6 +69,6 @@ returns c =
     let pre = c.requires in
     let e = le_antisymm inv.0 c.loop-i-test.false in
     record {
-  ids = filled_end inv.1 e pre.0;
-  distances = filled_end inv.2 e pre.0;
-}
+      ids = filled_end inv.1 e pre.0;
+      distances = filled_end inv.2 e pre.0;
+    }

@@ -1,8 +1,6 @@
 -- `search::search_refusal` meets its contract: the refusals of what a search starts from, then the others in document 01's order. Assumes nothing.
-use mathlib.Core.Path.{◌≡◌, sym, ◌∙◌}
-use mathlib.Core.Bool.{false}
+use mathlib.Core.Path.{sym, ◌∙◌}
 use borrow.Author.Tests.{lt-ltb, le-ltb}
-use Rattle.rules.specs.Refusals.{outside}
 use Rattle.laws.proofs.RefusalOrder.{stops, passes, search_order}
 use Rattle.search.proofs.search_refusal.Goals as goal
 

@@ -1,6 +1,5 @@
 use Prim.Native.Nat.{ℕ, ◌≤◌, ◌<◌}
-use mathlib.Core.Path.{refl, sym, ◌∙◌}
-use mathlib.Core.Path.{◌≡◌}
+use mathlib.Core.Path.{◌≡◌, refl, sym, ◌∙◌}
 use mathlib.Core.Bool.{true}
 use mathlib.Core.List.{List}
 use lib.ListN.{length}
@@ -45,12 +44,12 @@ visit-front-requires c =
     let inv = c.loop-from.invariant in
     let x = next-waits _ _ _ _ _ _ _ pre.given.few-points inv.0 (sym c.goes_on.ensures ∙ c.loop-from-test.true) in
     record {
-  given = pre.given;
-  lined = inv.0.lined;
-  rest = inv.1;
-  table = pre.table.0;
-  there = (x.0, x.1);
-}
+      given = pre.given;
+      lined = inv.0.lined;
+      rest = inv.1;
+      table = pre.table.0;
+      there = (x.0, x.1);
+    }
 
 pub overflow_add-walked : goal.overflow_add-walked
 overflow_add-walked c =

@@ -2,7 +2,7 @@
 use Prim.Native.Nat.{ℕ, ◌+◌, ◌*◌, ◌≤◌, ◌<◌}
 use mathlib.Core.Path.{◌≡◌}
 use native.Mathlib.Omega.{arith}
-use lib.ListN.{length, length-take, length-drop}
+use lib.ListN.{length-take, length-drop}
 use Rattle.search.proofs.Seeing.{flag-there, line_holds}
 use Rattle.search.proofs.Listing.{rest_mark}
 use Rattle.search.proofs.Visiting.{row_fits, mark_lined, visited}
@@ -35,11 +35,11 @@ pub follow-next-requires : goal.follow-next-requires
 follow-next-requires c =
     let pre = c.requires in
     let there = flag-there pre.given.few-points pre.lined pre.there.0 in record {
-  given = pre.given;
-  lined = mark_lined _ _ there pre.there.1 pre.lined;
-  rest = rest_mark pre.rest _ there;
-  row = simp (length-take, length-drop) (omega (arith, (fits pre.given.few-points pre.there.0 pre.table).0));
-}
+      given = pre.given;
+      lined = mark_lined _ _ there pre.there.1 pre.lined;
+      rest = rest_mark pre.rest _ there;
+      row = simp (length-take, length-drop) (omega (arith, (fits pre.given.few-points pre.there.0 pre.table).0));
+    }
 
 pub first_open-from-requires : goal.first_open-from-requires
 first_open-from-requires c =

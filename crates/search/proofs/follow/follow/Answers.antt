@@ -1,8 +1,8 @@
-use Prim.Native.Nat.{ℕ, ◌-◌, ◌≤◌, ◌<◌}
+use Prim.Native.Nat.{ℕ, ◌≤◌, ◌<◌}
 use native.Mathlib.Omega.{arith}
 use mathlib.Core.List.{List}
 use lib.ListN.{length, get_or}
-use Rattle.search.specs.Seen.{Lined, key_of}
+use Rattle.search.specs.Seen.{Lined}
 use Rattle.search.proofs.Seeing.{flag-there}
 use Rattle.search.proofs.Following.{Following, following_start, following_pass, following_reach, following_end}
 use Rattle.search.proofs.follow.follow.Goals as goal
@@ -39,10 +39,10 @@ pub reach-front-requires : goal.reach-front-requires
 reach-front-requires c =
     let inv = c.loop-i.invariant in
     record {
-  given = c.requires.given;
-  lined = inv.1;
-  rest = (inv.0.list, c.loop-i-test.true);
-}
+      given = c.requires.given;
+      lined = inv.1;
+      rest = (inv.0.list, c.loop-i-test.true);
+    }
 
 pub loop-i-smaller-then-row-id : goal.loop-i-smaller-then-row-id
 loop-i-smaller-then-row-id c =

@@ -32,10 +32,10 @@ pub see-requires : goal.see-requires
 see-requires c =
     let pre = c.requires in
     record {
-  given = pre.given;
-  lined = pre.lined;
-  fresh = (in_set pre.rest.0 pre.rest.1, c.if-flags-id-eq0.true);
-}
+      given = pre.given;
+      lined = pre.lined;
+      fresh = (in_set pre.rest.0 pre.rest.1, c.if-flags-id-eq0.true);
+    }
 
 pub returns-then-flags-id-eq0 : goal.returns-then-flags-id-eq0
 returns-then-flags-id-eq0 c =
@@ -43,7 +43,7 @@ returns-then-flags-id-eq0 c =
     let id = get_or c.args.rest.now c.args.i 0 in
     let new = c.see.ensures in (
       reach_holds pre.rest.0 pre.rest.1 (has_flag pre.rest.0 pre.rest.1 pre.given.few-points pre.lined) _ new.2 _ _
-      (new.0 ∙ reached_new id c.args.flags.now c.if-flags-id-eq0.true) refl,
+          (new.0 ∙ reached_new id c.args.flags.now c.if-flags-id-eq0.true) refl,
       new.1,
     )
 
@@ -51,6 +51,6 @@ pub returns : goal.returns
 returns c =
     let pre = c.requires in (
       reach_holds pre.rest.0 pre.rest.1 (has_flag pre.rest.0 pre.rest.1 pre.given.few-points pre.lined) _ refl _ _
-      (reached-seen _ _ c.if-flags-id-eq0.false) refl,
+          (reached-seen _ _ c.if-flags-id-eq0.false) refl,
       pre.lined,
     )
