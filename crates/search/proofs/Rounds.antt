@@ -21,7 +21,7 @@ use Rattle.laws.proofs.Visits.{waits-seen, choice_same, visits}
 use Rattle.laws.proofs.Search.{visits_room, run-next, run-done, run_sound}
 use Rattle.search.specs.Line.{waits, sees}
 use Rattle.search.specs.Seen.{Lined, Visited, goes_on, sought_by, Explored}
-use Rattle.search.proofs.Seeing.{line_size, line_seen, line_id}
+use Rattle.search.proofs.Seeing.{line_seen, line_id}
 use Rattle.search.proofs.Visiting.{Holds, visit-holds}
 use Rattle.search.proofs.Choosing.{choice-visit, choice_full, choice-done}
 

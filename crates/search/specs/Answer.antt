@@ -2,7 +2,6 @@
 use Rattle.std.specs.Prelude.{ℕ, ◌/◌, ◌%◌}
 use Rattle.rules.specs.Outcome.{Outcome, refused, gives}
 use Rattle.rules.specs.Entries as rules
-use Rattle.search.specs.declared.Counts.{Counts}
 use Rattle.search.specs.declared.Searched.{Searched}
 use Rattle.search.specs.declared.Searched.TheVariants.{Refused, Done}
 

@@ -1,12 +1,7 @@
 -- `search::answer` meets its contract. Assumes nothing.
-use Prim.Native.Nat.{◌-◌, ◌≤◌, ◌<◌}
-use mathlib.Core.Path.{◌≡◌, refl}
-use native.Mathlib.Nat.{le_antisymm}
-use native.Mathlib.Omega.{arith}
-use lib.ListN.{length}
+use Prim.Native.Nat.{◌-◌, ◌≤◌}
 use Rattle.search.specs.Answer.{id_of, distance_of}
-use Rattle.search.proofs.Filling.{Filled, filled-start, filled-size, filled_step, filled_end}
-use borrow.Author.Rules.{rules}
+use Rattle.search.proofs.Filling.{Filled}
 use Rattle.search.proofs.answer.Given as goal
 
 abbrev pub invariant-loop-i : goal.invariant-loop-i

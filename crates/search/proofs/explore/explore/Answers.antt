@@ -1,40 +1,17 @@
-use Prim.Native.Nat.{◌-◌, ◌≤◌, ◌<◌}
+use Prim.Native.Nat.{ℕ, ◌≤◌, ◌<◌}
 use mathlib.Core.Path.{◌≡◌, refl, sym, ◌∙◌}
 use mathlib.Core.Bool.{true}
+use mathlib.Core.List.{List}
 use lib.ListN.{length}
 use native.Mathlib.Omega.{arith}
-use Rattle.rules.specs.Points.{away}
-use Rattle.search.specs.Rest.{Rest}
 use Rattle.search.specs.Seen.{goes_on}
 use Rattle.search.proofs.Rounds.{Round, round_start, next_place, next-waits, room, round_step, round_end}
 use Rattle.search.proofs.explore.explore.Goals as goal
 
--- where the search goes on: the facts of the next visit, by what holds at the loop
-module _ (c : goal.In-loop-from) where
-  abbrev entry : goal.Start
-  entry = c
-
-  abbrev round : goal.At-loop-from
-  round = c
-
-  small : entry.args.n ≤ 128
-  small = entry.pre.0.few-points
-
-  goes : goes_on round.loop.front.seen round.loop.front.from entry.args.width ≡ true
-  goes = sym c.goes_on.ensures ∙ c.loop-from-test.true
-
-  in_line_lem : round.loop.front.from < length round.loop.line
-  in_line_lem = next_place _ _ _ _ _ _ _ small round.loop.invariant.0 goes
-
-  few-walked : round.loop.walked < entry.args.n
-  few-walked = room _ _ _ _ _ _ _ small round.loop.invariant.0 goes
-
-  in_trail : round.loop.walked < length round.loop.trail
-  in_trail = omega (arith, few-walked, round.loop.invariant.0.tsize, entry.pre.1.1.1.1.1)
-
--- the visit of a turn, at its end
-abbrev going : goal.After-slice_known-in-loop-from-4-1 → goal.In-loop-from
-going c = c
+-- where the search goes on, there is a cell of the trail for the next visit
+in_trail : {n m width seen from walked : ℕ} {D : ℕ → ℕ} {table flags₀ trail₀ flags line trail : List ℕ} → n ≤ 128 → n ≤ length trail₀ →
+    Round n D table m width flags₀ trail₀ flags line trail seen from walked → goes_on seen from width ≡ true → walked < length trail
+in_trail small fits r go = omega (arith, room _ _ _ _ _ _ _ small r go, r.tsize, fits)
 
 pub loop-from-init : goal.loop-from-init
 loop-from-init c =
@@ -42,40 +19,53 @@ loop-from-init c =
     (round_start _ _ _ _ _ _ _ pre.given.few-points pre.fresh pre.lined, pre.rest)
 
 pub offset_bounds-line-from : goal.offset_bounds-line-from
-offset_bounds-line-from c = omega (arith, in_line_lem c)
+offset_bounds-line-from c =
+    let go = sym c.goes_on.ensures ∙ c.loop-from-test.true in
+    omega (arith, next_place _ _ _ _ _ _ _ c.requires.given.few-points c.loop-from.invariant.0 go)
 
 pub bounds-line-from : goal.bounds-line-from
-bounds-line-from c = in_line_lem c.before
+bounds-line-from c =
+    let go = sym c.goes_on.ensures ∙ c.loop-from-test.true in
+    next_place _ _ _ _ _ _ _ c.requires.given.few-points c.loop-from.invariant.0 go
 
 pub offset_bounds-trail-walked : goal.offset_bounds-trail-walked
-offset_bounds-trail-walked c = omega (arith, in_trail c.before)
+offset_bounds-trail-walked c =
+    let pre = c.requires in
+    omega (arith, in_trail pre.given.few-points pre.table.1 c.loop-from.invariant.0 (sym c.goes_on.ensures ∙ c.loop-from-test.true))
 
 pub bounds-trail-walked : goal.bounds-trail-walked
-bounds-trail-walked c = in_trail c.before
+bounds-trail-walked c =
+    let pre = c.requires in
+    in_trail pre.given.few-points pre.table.1 c.loop-from.invariant.0 (sym c.goes_on.ensures ∙ c.loop-from-test.true)
 
 pub visit-front-requires : goal.visit-front-requires
 visit-front-requires c =
-    let inv = (round c.before.before.before.before).loop-from.invariant in
-    let x = next-waits _ _ _ _ _ _ _ (small c.before.before.before.before) inv.0 (goes c.before.before.before.before) in
+    let pre = c.requires in
+    let inv = c.loop-from.invariant in
+    let x = next-waits _ _ _ _ _ _ _ pre.given.few-points inv.0 (sym c.goes_on.ensures ∙ c.loop-from-test.true) in
     record {
-  given = (entry c.before.before.before.before).requires.0;
-  lined = inv.0.lined;
-  rest = inv.1;
-  table = (entry c.before.before.before.before).requires.1.1.1.1.0;
-  there = (x.0, x.1);
-}
+      given = pre.given;
+      lined = inv.0.lined;
+      rest = inv.1;
+      table = pre.table.0;
+      there = (x.0, x.1);
+    }
 
 pub overflow_add-walked : goal.overflow_add-walked
-overflow_add-walked c = omega (arith, few-walked (going c), small (going c))
+overflow_add-walked c =
+    let small = c.requires.given.few-points in
+    omega (arith, room _ _ _ _ _ _ _ small c.loop-from.invariant.0 (sym c.goes_on.ensures ∙ c.loop-from-test.true), small)
 
 pub loop-from-smaller : goal.loop-from-smaller
-loop-from-smaller c = omega (arith, few-walked (going c))
+loop-from-smaller c =
+    let small = c.requires.given.few-points in
+    omega (arith, room _ _ _ _ _ _ _ small c.loop-from.invariant.0 (sym c.goes_on.ensures ∙ c.loop-from-test.true))
 
 pub loop-from-preserved : goal.loop-from-preserved
 loop-from-preserved c =
-    let t = going c in
+    let pre = c.requires in
     let visit = c.visit-front in
-    (round_step _ _ _ _ _ _ _ (small t) (round t).loop-from.invariant.0 (goes t) (entry t).pre.1.1.1.1.1 visit.ensures.0 refl, visit.ensures.1)
+    (round_step _ _ _ _ _ _ _ pre.given.few-points c.loop-from.invariant.0 (sym c.goes_on.ensures ∙ c.loop-from-test.true) pre.table.1 visit.ensures.0 refl, visit.ensures.1)
 
 pub returns : goal.returns
 returns c =

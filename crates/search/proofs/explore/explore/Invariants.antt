@@ -1,13 +1,8 @@
 -- `search::explore::explore` meets its contract: after each turn the flags, the line and the trail stand for the search's state. Assumes nothing.
-use Prim.Native.Nat.{◌-◌, ◌≤◌, ◌<◌}
-use mathlib.Core.Path.{◌≡◌, refl, sym, ◌∙◌}
-use mathlib.Core.Bool.{true}
-use lib.ListN.{length}
-use native.Mathlib.Omega.{arith}
+use Prim.Native.Nat.{◌-◌}
 use Rattle.rules.specs.Points.{away}
 use Rattle.search.specs.Rest.{Rest}
-use Rattle.search.specs.Seen.{goes_on}
-use Rattle.search.proofs.Rounds.{Round, round_start, next_place, next-waits, room, round_step, round_end}
+use Rattle.search.proofs.Rounds.{Round}
 use Rattle.search.proofs.explore.explore.Given as goal
 
 abbrev pub invariant-loop-from : goal.invariant-loop-from

@@ -1,24 +1,19 @@
-use Prim.Native.Nat.{◌-◌, ◌<◌}
+use Prim.Native.Nat.{ℕ, ◌≤◌, ◌<◌}
 use native.Mathlib.Omega.{arith}
+use mathlib.Core.List.{List}
 use lib.ListN.{length, get_or}
-use Rattle.search.specs.Seen.{Lined, key_of}
+use Rattle.search.specs.Seen.{Lined}
 use Rattle.search.proofs.Seeing.{flag-there}
 use Rattle.search.proofs.Following.{Following, following_start, following_pass, following_reach, following_end}
 use Rattle.search.proofs.follow.follow.Goals as goal
 
 -- inside the loop: the next id of the list is one of the set, and has a flag
-module _ (c : goal.In-loop-i) where
-  abbrev turn : goal.At-loop-i
-  turn = c
+in_set : {n m i left : ℕ} {row old new rest : List ℕ} → Following n row m old new rest i left → i < left → get_or rest i 0 < n
+in_set h l = h.list.below _ l
 
-  abbrev entry : goal.Start
-  entry = turn.before.before.before.before.before
-
-  in_set : get_or turn.loop.rest turn.loop.i 0 < entry.args.n
-  in_set = turn.loop.invariant.0.list.below turn.loop.i c.loop-i-test.true
-
-  has_flag : get_or turn.loop.rest turn.loop.i 0 < length turn.loop.flags
-  has_flag = flag-there entry.pre.0.few-points turn.loop.invariant.1 in_set
+has_flag : {n m i left seen from : ℕ} {key : ℕ → ℕ} {row old new line rest : List ℕ} → Following n row m old new rest i left → i < left → n ≤ 128 →
+    Lined n key new line seen from → get_or rest i 0 < length new
+has_flag h l small lined = flag-there small lined (in_set h l)
 
 pub loop-i-init : goal.loop-i-init
 loop-i-init c =
@@ -27,27 +22,27 @@ loop-i-init c =
 
 pub bounds-rest-i : goal.bounds-rest-i
 bounds-rest-i c =
-    let list = (turn c.before).loop-i.invariant.0.list in
+    let list = c.loop-i.invariant.0.list in
     omega (arith, list.size, list.few, c.loop-i-test.true)
 
 pub overflow_cast-id : goal.overflow_cast-id
-overflow_cast-id c = omega (arith, in_set c.before, (entry c.before).pre.0.few-points)
+overflow_cast-id c = omega (arith, in_set c.loop-i.invariant.0 c.loop-i-test.true, c.requires.given.few-points)
 
 pub offset_bounds-row-id : goal.offset_bounds-row-id
-offset_bounds-row-id c = omega (arith, in_set c.before, (entry c.before).pre.0.few-points)
+offset_bounds-row-id c = omega (arith, in_set c.loop-i.invariant.0 c.loop-i-test.true, c.requires.given.few-points)
 
 pub bounds-row-id : goal.bounds-row-id
 bounds-row-id c =
-    omega (arith, in_set c.before.before, (entry c.before.before).requires.1.1.1)
+    omega (arith, in_set c.loop-i.invariant.0 c.loop-i-test.true, c.requires.row)
 
 pub reach-front-requires : goal.reach-front-requires
 reach-front-requires c =
-    let inv = (turn c.before.before.before.before.before.before).loop-i.invariant in
+    let inv = c.loop-i.invariant in
     record {
-  given = (entry c.before.before.before.before.before.before).requires.0;
-  lined = inv.1;
-  rest = (inv.0.list, c.loop-i-test.true);
-}
+      given = c.requires.given;
+      lined = inv.1;
+      rest = (inv.0.list, c.loop-i-test.true);
+    }
 
 pub loop-i-smaller-then-row-id : goal.loop-i-smaller-then-row-id
 loop-i-smaller-then-row-id c =
@@ -55,19 +50,22 @@ loop-i-smaller-then-row-id c =
 
 pub loop-i-preserved-then-row-id : goal.loop-i-preserved-then-row-id
 loop-i-preserved-then-row-id c =
+    let inv = c.loop-i.invariant in
+    let t = c.loop-i-test.true in
     let out = c.reach-front.ensures in
-    (following_reach (turn c.before.before.before.before.before.before.before.before.before.before.before.before.before).loop-i.invariant.0 c.loop-i-test.true c.if-row-id.true (has_flag c.before.before.before.before.before.before.before.before.before.before.before.before.before) out.0, out.1)
+    (following_reach inv.0 t c.if-row-id.true (has_flag inv.0 t c.requires.given.few-points inv.1) out.0, out.1)
 
 pub overflow_add-i : goal.overflow_add-i
 overflow_add-i c =
-    omega (arith, c.loop-i-test.true, (turn c.before.before.before).loop-i.invariant.0.list.few)
+    omega (arith, c.loop-i-test.true, c.loop-i.invariant.0.list.few)
 
 pub loop-i-smaller : goal.loop-i-smaller
 loop-i-smaller c = omega (arith, c.loop-i-test.true)
 
 pub loop-i-preserved : goal.loop-i-preserved
 loop-i-preserved c =
-    (following_pass (turn c.before.before.before).loop-i.invariant.0 c.loop-i-test.true c.if-row-id.false, (turn c.before.before.before).loop-i.invariant.1)
+    let inv = c.loop-i.invariant in
+    (following_pass inv.0 c.loop-i-test.true c.if-row-id.false, inv.1)
 
 pub returns : goal.returns
 returns c =

@@ -1,10 +1,7 @@
 -- `search::follow::follow` meets its contract: what the list has not passed may yet be reached. Assumes nothing.
-use Prim.Native.Nat.{◌-◌, ◌<◌}
-use native.Mathlib.Omega.{arith}
-use lib.ListN.{length, get_or}
+use Prim.Native.Nat.{◌-◌}
 use Rattle.search.specs.Seen.{Lined, key_of}
-use Rattle.search.proofs.Seeing.{flag-there}
-use Rattle.search.proofs.Following.{Following, following_start, following_pass, following_reach, following_end}
+use Rattle.search.proofs.Following.{Following}
 use Rattle.search.proofs.follow.follow.Given as goal
 
 abbrev pub invariant-loop-i : goal.invariant-loop-i

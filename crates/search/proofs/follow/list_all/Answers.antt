@@ -1,7 +1,5 @@
-use Prim.Native.Nat.{◌-◌, ◌≤◌}
 use mathlib.Core.Path.{refl}
 use native.Mathlib.Omega.{arith}
-use Rattle.search.specs.Rest.{Numbered}
 use Rattle.search.proofs.Listing.{numbered_start, numbered_step, numbered_end}
 use Rattle.search.proofs.follow.list_all.Goals as goal
 

@@ -1,9 +1,6 @@
 -- `search::follow::list_all` meets its contract. Assumes nothing.
 use Prim.Native.Nat.{◌-◌, ◌≤◌}
-use mathlib.Core.Path.{refl}
-use native.Mathlib.Omega.{arith}
 use Rattle.search.specs.Rest.{Numbered}
-use Rattle.search.proofs.Listing.{numbered_start, numbered_step, numbered_end}
 use Rattle.search.proofs.follow.list_all.Given as goal
 
 abbrev pub invariant-loop-i : goal.invariant-loop-i

@@ -1,6 +1,5 @@
-use Prim.Native.Nat.{◌-◌}
 use borrow.Author.Tests.{eq-eqb, ne_eqb}
-use Rattle.search.proofs.Places.{Passing, pass_start, pass_step, pass_open, pass_none}
+use Rattle.search.proofs.Places.{pass_start, pass_step, pass_open, pass_none}
 use borrow.Author.Rules.{rules}
 use Rattle.search.proofs.line.first_open.Goals as goal
 

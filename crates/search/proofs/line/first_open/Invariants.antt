@@ -1,8 +1,6 @@
 -- `search::line::first_open` meets its contract: no place that was passed has an id that waits. Assumes nothing.
 use Prim.Native.Nat.{◌-◌}
-use borrow.Author.Tests.{eq-eqb, ne_eqb}
-use Rattle.search.proofs.Places.{Passing, pass_start, pass_step, pass_open, pass_none}
-use borrow.Author.Rules.{rules}
+use Rattle.search.proofs.Places.{Passing}
 use Rattle.search.proofs.line.first_open.Given as goal
 
 abbrev pub invariant-loop-at : goal.invariant-loop-at

@@ -1,5 +1,5 @@
 use mathlib.Core.Path.{refl}
-use Rattle.search.proofs.Places.{Shifting, shift_start, shift_step, shift_stop, shift_front}
+use Rattle.search.proofs.Places.{shift_start, shift_step, shift_stop, shift_front}
 use borrow.Author.Rules.{rules}
 use Rattle.search.proofs.line.shift.Goals as goal
 
