@@ -1,7 +1,7 @@
 -- `walk::unrefused_step` meets its contract: at its end, one move too many, or a move. Assumes nothing.
-use Prim.Native.Nat.{◌/◌, ◌%◌, ◌≤◌, ◌<◌}
+use Prim.Native.Nat.{◌≤◌, ◌<◌}
 use native.Mathlib.Omega.{arith}
-use mathlib.Core.Path.{◌≡◌, refl, ap, ◌∙◌}
+use mathlib.Core.Path.{refl, ap, ◌∙◌}
 use Rattle.walk.specs.Answers.{told}
 use Rattle.walk.proofs.Taken.{taken}
 use Rattle.walk.proofs.Steps.{goes_nowhere, goes_there, step_ends, step_full, step_moves}
@@ -38,5 +38,5 @@ returns c =
     let few = (taken _ _ _ _ _ _ _ c.requires).asked.few-points in
     let spare : c.args.moves < 127 = omega arith in
     let goes =
-        goes_there _ _ _ _ _ _ _ _ _ few c.from_query-distance.ensures.value c.next_key-key.ensures _ c.id_of-next.ensures (omega arith) in
+    goes_there _ _ _ _ _ _ _ _ _ few c.from_query-distance.ensures.value c.next_key-key.ensures _ c.id_of-next.ensures (omega arith) in
     step_moves _ _ _ _ _ _ _ c.requires _ goes.0 spare

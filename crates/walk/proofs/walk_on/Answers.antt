@@ -1,7 +1,6 @@
-use Prim.Native.Nat.{◌/◌, ◌≤◌, ◌<◌}
 use native.Mathlib.Omega.{arith}
 use Rattle.laws.proofs.Walking.{passes_start}
-use Rattle.walk.proofs.Way.{Way, way_passes, way_spare, way_far, way_ends}
+use Rattle.walk.proofs.Way.{way_passes, way_spare, way_far, way_ends}
 use Rattle.walk.proofs.walk_on.Goals as goal
 
 pub loop-key-init : goal.loop-key-init

@@ -1,8 +1,5 @@
 -- `walk::walk_on` meets its contract. The loop keeps that the walk is on its way; the measure is D. Assumes nothing.
-use Prim.Native.Nat.{◌/◌, ◌≤◌, ◌<◌}
-use native.Mathlib.Omega.{arith}
-use Rattle.laws.proofs.Walking.{passes_start}
-use Rattle.walk.proofs.Way.{Way, way_passes, way_spare, way_far, way_ends}
+use Rattle.walk.proofs.Way.{Way}
 use Rattle.walk.proofs.walk_on.Given as goal
 
 abbrev pub invariant-loop-key : goal.invariant-loop-key

@@ -7,6 +7,6 @@ pub returns : goal.returns
 returns c =
     let set = c.requires.set in
     record {
-  value = c.measure.ensures.value ∙ measured _ _ _ set.set_given _ set.query-is _ c.requires.id;
-  bounded = c.measure.ensures.bounded;
-}
+      value = c.measure.ensures.value ∙ measured _ _ _ set.set_given _ set.query-is _ c.requires.id;
+      bounded = c.measure.ensures.bounded;
+    }

@@ -1,10 +1,5 @@
-use Prim.Native.Nat.{◌-◌, ◌*◌, ◌≤◌}
 use mathlib.Core.Path.{◌≡◌, sym, ◌∙◌}
 use native.Mathlib.Omega.{arith}
-use Rattle.rules.specs.Points.{away}
-use Rattle.rules.specs.Order.{keyed}
-use Rattle.rules.specs.Labels.{edge_in}
-use Rattle.walk.specs.Least.{least}
 use Rattle.walk.proofs.Least.{least-none_yet, least_more}
 use Rattle.walk.proofs.keys.next_key.Goals as goal
 

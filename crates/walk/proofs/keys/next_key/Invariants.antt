@@ -1,12 +1,10 @@
 -- `walk::keys::next_key` meets its contract. The loop keeps the least key of the ids passed; the measure is what is left of them. Assumes nothing.
 use Prim.Native.Nat.{◌-◌, ◌*◌, ◌≤◌}
-use mathlib.Core.Path.{◌≡◌, sym, ◌∙◌}
-use native.Mathlib.Omega.{arith}
+use mathlib.Core.Path.{◌≡◌}
 use Rattle.rules.specs.Points.{away}
 use Rattle.rules.specs.Order.{keyed}
 use Rattle.rules.specs.Labels.{edge_in}
 use Rattle.walk.specs.Least.{least}
-use Rattle.walk.proofs.Least.{least-none_yet, least_more}
 use Rattle.walk.proofs.keys.next_key.Given as goal
 
 abbrev pub invariant-loop-id : goal.invariant-loop-id
