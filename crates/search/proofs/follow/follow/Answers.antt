@@ -7,7 +7,7 @@ use Rattle.search.proofs.Seeing.{flag-there}
 use Rattle.search.proofs.Following.{Following, following_start, following_pass, following_reach, following_end}
 use Rattle.search.proofs.follow.follow.Goals as goal
 
--- inside the loop: the next id of the list is one of the set, and has a flag
+-- where the list is not at its end, its next id is one of the set, and has a flag
 in_set : {n m i left : ℕ} {row old new rest : List ℕ} → Following n row m old new rest i left → i < left → get_or rest i 0 < n
 in_set h l = h.list.below _ l
 
