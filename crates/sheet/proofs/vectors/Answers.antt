@@ -1,16 +1,17 @@
 -- `sheet::vectors` meets its contract. Assumes nothing.
-use mathlib.Core.Path.{sym, ◌∙◌}
-use lib.ListN.{length}
+use mathlib.Core.Path.{◌≡◌, sym, ◌∙◌}
+use mathlib.Core.List.{List}
+use Prim.Native.Nat.{ℕ}
+use Rattle.rules.specs.Refusals.{vectors_refusal}
 use Rattle.rules.specs.Entries.{vectors_after}
+use Rattle.sheet.specs.declared.Head.{Head}
+use Rattle.sheet.specs.Answers.{head_of}
 use Rattle.sheet.proofs.Entered.{left_old, left_new, Vectors, vectors-small, vectors_are}
 use Rattle.sheet.proofs.vectors.Goals as goal
 
 -- where the header was read: nothing is refused
-abbrev start : goal.After-head-head → goal.Start
-start c = c
-
-known : (c : goal.After-head-head) → Vectors (start c).args.sheet.now c.head-head.result (length (start c).args.buffer.now)
-known c = record { head = c.head-head.ensures; free = sym c.vectors_refusal-refusal.ensures ∙ c.if-refusal-ne0.false }
+known : {ys : List ℕ} {h : Head} {room refusal : ℕ} → refusal ≡ vectors_refusal ys room → refusal ≡ 0 → h ≡ head_of ys → Vectors ys h room
+known is none head = record { head = head; free = sym is ∙ none }
 
 pub returns-then-refusal-ne0 : goal.returns-then-refusal-ne0
 unfolding vectors_after
@@ -19,11 +20,11 @@ returns-then-refusal-ne0 c =
     (refusal, left_old refusal c.if-refusal-ne0.true _ _)
 
 pub read_values-requires : goal.read_values-requires
-read_values-requires c = vectors-small (known c.before)
+read_values-requires c = vectors-small (known c.vectors_refusal-refusal.ensures c.if-refusal-ne0.false c.head-head.ensures)
 
 pub returns : goal.returns
 unfolding vectors_after
 returns c =
     let refusal = c.vectors_refusal-refusal.ensures in
     let none = c.if-refusal-ne0.false in
-    (sym none ∙ refusal, c.read_values.ensures ∙ vectors_are (known c.before.before.before) ∙ left_new refusal none _ _)
+    (sym none ∙ refusal, c.read_values.ensures ∙ vectors_are (known refusal none c.head-head.ensures) ∙ left_new refusal none _ _)

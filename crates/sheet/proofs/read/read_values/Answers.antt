@@ -34,7 +34,7 @@ loop-i-preserved c =
       simp length-set (omega arith),
       omega arith,
       reading_more c.args.sheet.now c.args.c l.p c.requires.1 c.field_from.ensures
-          l.buffer l.i c.loop-i-test.true f.ensures (record { sfits = f.type-inv })
+          l.buffer l.i c.loop-i-test.true f.ensures (record { sfits = f.type_inv })
           ∙ l.invariant.3,
     )
 

@@ -1,14 +1,18 @@
 -- `sheet::read::sheet_refusal` meets its contract: each return is a test of the order. Assumes nothing.
+use mathlib.Core.Path.{◌≡◌}
+use mathlib.Core.List.{List}
+use Prim.Native.Nat.{ℕ, ◌≤◌}
+use lib.ListN.{length}
+use Rattle.rules.specs.Sheet.{bit_count}
+use Rattle.sheet.specs.declared.Head.{Head}
+use Rattle.sheet.specs.Answers.{head_of}
 use Rattle.sheet.proofs.Reading.{short, asks-over, head_small, Counted, length-under, length_over, filling-set, filling_clear}
 use Rattle.sheet.proofs.read.sheet_refusal.Goals as goal
 
 -- where the bits were counted
-abbrev start : goal.After-bit_count-bits → goal.Start
-start c = c
-
-known : (c : goal.After-bit_count-bits) → Counted (start c).args.sheet.now c.head-h.result c.bit_count-bits.result
-known c =
-    record { head = c.head-h.ensures; header = c.if-bytes-lt3.false; few = c.if-h-gt127.false; count = c.bit_count-bits.ensures.0 }
+known : (ys : List ℕ) {h : Head} {bits : ℕ} → h ≡ head_of ys → 3 ≤ length ys → h.asks ≤ 127 → bits ≡ bit_count h.n h.d h.c h.asks
+    → Counted ys h bits
+known ys head header few count = record { head = head; header = header; few = few; count = count }
 
 pub returns-then-bytes-lt3 : goal.returns-then-bytes-lt3
 returns-then-bytes-lt3 c = short c.args.sheet.now c.if-bytes-lt3.true
@@ -23,15 +27,21 @@ bit_count-bits-requires c =
     (h.0, h.1, h.3, c.if-h-gt127.false)
 
 pub returns-then-bytes-needed : goal.returns-then-bytes-needed
-returns-then-bytes-needed c = length-under (known c.before) c.if-bytes-needed.true
+returns-then-bytes-needed c =
+    let counted = known c.args.sheet.now c.head-h.ensures c.if-bytes-lt3.false c.if-h-gt127.false c.bit_count-bits.ensures.0 in
+    length-under counted c.if-bytes-needed.true
 
 pub returns-then-needed-bytes : goal.returns-then-needed-bytes
-returns-then-needed-bytes c = length_over (known c.before.before) c.if-needed-bytes.true
+returns-then-needed-bytes c =
+    let counted = known c.args.sheet.now c.head-h.ensures c.if-bytes-lt3.false c.if-h-gt127.false c.bit_count-bits.ensures.0 in
+    length_over counted c.if-needed-bytes.true
 
 pub returns-then-field_from-gt0 : goal.returns-then-field_from-gt0
 returns-then-field_from-gt0 c =
-    filling-set (known c.before.before.before.before) c.if-bytes-needed.false c.if-needed-bytes.false c.field_from.ensures c.if-field_from-gt0.true
+    let counted = known c.args.sheet.now c.head-h.ensures c.if-bytes-lt3.false c.if-h-gt127.false c.bit_count-bits.ensures.0 in
+    filling-set counted c.if-bytes-needed.false c.if-needed-bytes.false c.field_from.ensures c.if-field_from-gt0.true
 
 pub returns : goal.returns
 returns c =
-    filling_clear (known c.before.before.before.before) c.if-bytes-needed.false c.if-needed-bytes.false c.field_from.ensures c.if-field_from-gt0.false
+    let counted = known c.args.sheet.now c.head-h.ensures c.if-bytes-lt3.false c.if-h-gt127.false c.bit_count-bits.ensures.0 in
+    filling_clear counted c.if-bytes-needed.false c.if-needed-bytes.false c.field_from.ensures c.if-field_from-gt0.false

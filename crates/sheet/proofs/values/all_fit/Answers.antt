@@ -2,7 +2,6 @@ use native.Mathlib.Omega.{arith}
 use mathlib.Core.Path.{◌≡◌, refl, ◌∙◌}
 use Prim.Native.Nat.{◌-◌, ◌≤◌}
 use lib.ListN.{length, drop}
-use borrow.Author.Tests.{not-true, not-false}
 use Rattle.rules.specs.Bits.{all_fit}
 use Rattle.sheet.proofs.Signs.{all_stops, all_passes, all_done}
 use Rattle.sheet.proofs.values.all_fit.Goals as goal
@@ -19,7 +18,7 @@ returns-then-not-fits_width c =
     let loop = c.loop-i in
     let a = c.args in
     all_stops a.c a.values.now loop.i c.loop-i-test.true (record { sfits = c.fits_width-arg-1.given })
-    fit.result fit.ensures (not-true fit.result c.if-not-fits_width.true)
+    fit.result fit.ensures c.if-not-fits_width.true
     ∙ loop.invariant.1
 
 pub loop-i-preserved : goal.loop-i-preserved
@@ -29,7 +28,7 @@ loop-i-preserved c =
     let a = c.args in (
       omega arith,
       all_passes a.c a.values.now loop.i c.loop-i-test.true (record { sfits = c.fits_width-arg-1.given })
-          fit.result fit.ensures (not-false fit.result c.if-not-fits_width.false)
+          fit.result fit.ensures c.if-not-fits_width.false
           ∙ loop.invariant.1,
     )
 

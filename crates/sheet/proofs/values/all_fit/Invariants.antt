@@ -3,7 +3,6 @@ use native.Mathlib.Omega.{arith}
 use mathlib.Core.Path.{◌≡◌, refl, ◌∙◌}
 use Prim.Native.Nat.{◌-◌, ◌≤◌}
 use lib.ListN.{length, drop}
-use borrow.Author.Tests.{not-true, not-false}
 use Rattle.rules.specs.Bits.{all_fit}
 use Rattle.sheet.proofs.Signs.{all_stops, all_passes, all_done}
 use Rattle.sheet.proofs.values.all_fit.Given as goal
