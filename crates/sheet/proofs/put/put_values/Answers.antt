@@ -1,9 +1,9 @@
 use native.Mathlib.Omega.{arith}
 use mathlib.Core.Path.{◌≡◌, refl, sym, ap, ◌∙◌}
-use Prim.Native.Nat.{ℕ, ◌+◌, ◌*◌, ◌-◌, ◌≤◌}
+use Prim.Native.Nat.{ℕ, ◌*◌}
 use native.Mathlib.Nat.{mul-le-mul_right}
 use lib.ListN.{length}
-use Rattle.sheet.proofs.PuttingValues.{putting, putting_done, putting_all, putting_more}
+use Rattle.sheet.proofs.PuttingValues.{putting_done, putting_all, putting_more}
 use Rattle.sheet.proofs.put.put_values.Goals as goal
 
 pub loop-i-init : goal.loop-i-init

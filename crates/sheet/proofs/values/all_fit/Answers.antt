@@ -1,8 +1,5 @@
 use native.Mathlib.Omega.{arith}
-use mathlib.Core.Path.{◌≡◌, refl, ◌∙◌}
-use Prim.Native.Nat.{◌-◌, ◌≤◌}
-use lib.ListN.{length, drop}
-use Rattle.rules.specs.Bits.{all_fit}
+use mathlib.Core.Path.{refl, ◌∙◌}
 use Rattle.sheet.proofs.Signs.{all_stops, all_passes, all_done}
 use Rattle.sheet.proofs.values.all_fit.Goals as goal
 
