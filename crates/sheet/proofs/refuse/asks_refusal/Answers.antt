@@ -1,3 +1,4 @@
+-- `sheet::refuse::asks_refusal` meets its contract. Assumes nothing.
 use native.Mathlib.Omega.{arith}
 use mathlib.Core.Path.{sym, ◌∙◌}
 use Rattle.sheet.proofs.Refusing.{asks-start, ask_stops, ask_passes, asks-done}
