@@ -1,5 +1,5 @@
-// The reading place: it keeps the sheet and the next bit. Its functions are proved by hand, so they are few and thin over `field_at` and
-// `past_at`, which take the slice and the number. `field_from` takes plain parameters, and everyone else reads by it.
+// The reading place: it keeps the sheet and the next bit. Its functions are few and thin over `field_at` and `past_at`, which take the slice
+// and the number. `field_from` takes plain parameters, and everyone else reads by it.
 ghost use Rattle.std.specs.Prelude.{◌≡◌, min};
 ghost use Rattle.rules.specs.Sheet.{field_at};
 ghost use Rattle.sheet.specs.Past.{past_at};

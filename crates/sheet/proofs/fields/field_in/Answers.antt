@@ -22,4 +22,4 @@ returns c =
     let a = c.args in
     let p = c.requires in
     cut_is c.three_at-three.result _ (24 - a.at % 8 - a.bits) a.bits p.1 c.three_at-three.ensures
-    ∙ sym (field_in_three a.sheet.now a.at a.bits (λ i. omega (arith, c.shared_slice_known-1.given i)) p.0 p.1 p.2)
+    ∙ sym (field_in_three a.sheet.now a.at a.bits (λ i. omega (arith, c.type_inv.sheet i)) p.0 p.1 p.2)

@@ -4,7 +4,7 @@ use Rattle.laws.proofs.Numbers.{ask_ok}
 use Rattle.sheet.proofs.Asking.{ask-put}
 use Rattle.sheet.proofs.put.put_ask.Goals as goal
 
--- the ask is not refused
+-- the ask is not refused, so its width and its k are at least 1
 pub overflow_sub-width : goal.overflow_sub-width
 overflow_sub-width c = omega (arith, c.wide-width.ensures, (ask_ok c.args.ns.now c.requires.2).some-width)
 

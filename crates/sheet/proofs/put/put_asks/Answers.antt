@@ -1,3 +1,4 @@
+-- `sheet::put::put_asks` meets its contract. Assumes nothing.
 use native.Mathlib.Omega.{arith}
 use Prim.Native.Nat.{◌+◌, ◌*◌}
 use Rattle.sheet.proofs.Asking.{turn_start, turn_end, numbers_left, queries_left, turn_four, turn_fits, turn_values, turn_room, turn_again}

@@ -1,9 +1,7 @@
 -- `sheet::put::put_asks` meets its contract. The invariant: the asks that are left, put where the loop is, give what all of them give.
 -- Assumes nothing.
-use native.Mathlib.Omega.{arith}
-use Prim.Native.Nat.{◌+◌, ◌*◌, ◌-◌, ◌≤◌}
-use lib.ListN.{length}
-use Rattle.sheet.proofs.Asking.{Turn, turn_start, turn_end, numbers_left, queries_left, turn_four, turn_fits, turn_values, turn_room, turn_again}
+use Prim.Native.Nat.{◌-◌}
+use Rattle.sheet.proofs.Asking.{Turn}
 use Rattle.sheet.proofs.put.put_asks.Given as goal
 
 abbrev pub invariant-loop-i : goal.invariant-loop-i

@@ -1,8 +1,8 @@
+-- `sheet::put::put_field` meets its contract. Assumes nothing.
 use native.Mathlib.Omega.{arith}
-use mathlib.Core.Path.{◌≡◌, refl, sym, ap, ◌∙◌}
+use mathlib.Core.Path.{refl, sym, ap, ◌∙◌}
 use mathlib.Core.List.{List}
-use Prim.Native.Nat.{ℕ, ◌+◌, ◌-◌, ◌≤◌}
-use lib.ListN.{length}
+use Prim.Native.Nat.{ℕ, ◌+◌, ◌-◌}
 use Rattle.rules.specs.Bits.{bits}
 use Rattle.sheet.specs.Put.{put_bits}
 use Rattle.sheet.proofs.Putting.{field_step, field-done}

@@ -1,13 +1,10 @@
 -- `sheet::put::put_field` meets its contract. The invariant: what is left of the field, put where the loop is, gives what the whole field gives.
 -- Assumes nothing.
-use native.Mathlib.Omega.{arith}
-use mathlib.Core.Path.{◌≡◌, refl, sym, ap, ◌∙◌}
-use mathlib.Core.List.{List}
-use Prim.Native.Nat.{ℕ, ◌+◌, ◌-◌, ◌≤◌}
+use mathlib.Core.Path.{◌≡◌}
+use Prim.Native.Nat.{◌+◌, ◌≤◌}
 use lib.ListN.{length}
 use Rattle.rules.specs.Bits.{bits}
 use Rattle.sheet.specs.Put.{put_bits}
-use Rattle.sheet.proofs.Putting.{field_step, field-done}
 use Rattle.sheet.proofs.put.put_field.Given as goal
 
 abbrev pub invariant-loop-k : goal.invariant-loop-k

@@ -1,9 +1,11 @@
+-- `sheet::put::put_values` meets its contract. Assumes nothing.
 use native.Mathlib.Omega.{arith}
 use mathlib.Core.Path.{◌≡◌, refl, sym, ap, ◌∙◌}
-use Prim.Native.Nat.{ℕ, ◌+◌, ◌*◌, ◌-◌, ◌≤◌}
+use Prim.Native.Nat.{ℕ, ◌*◌}
 use native.Mathlib.Nat.{mul-le-mul_right}
 use lib.ListN.{length}
-use Rattle.sheet.proofs.PuttingValues.{putting, putting_done, putting_all, putting_more}
+use Rattle.std.proofs.Common.{rules}
+use Rattle.sheet.proofs.PuttingValues.{putting_done, putting_all, putting_more}
 use Rattle.sheet.proofs.put.put_values.Goals as goal
 
 pub loop-i-init : goal.loop-i-init
@@ -22,7 +24,7 @@ loop-i-preserved c =
       omega arith,
       omega arith,
       putting_more a.c a.zs.now l.out l.i l.p c.requires.0 c.requires.1 c.loop-i-test.true
-          (record { sfits = c.code-arg-1.given }) c.code.ensures c.put_field-p.ensures.0 c.put_field-p.ensures.1
+          (record { sfits = search rules }) c.code.ensures c.put_field-p.ensures.0 c.put_field-p.ensures.1
           ∙ l.invariant.3,
     )
 

@@ -1,11 +1,9 @@
 -- `sheet::put::put_values` meets its contract. The invariant: the values that are left, put where the loop is, give what all of them give.
 -- Assumes nothing.
-use native.Mathlib.Omega.{arith}
-use mathlib.Core.Path.{◌≡◌, refl, sym, ap, ◌∙◌}
-use Prim.Native.Nat.{ℕ, ◌+◌, ◌*◌, ◌-◌, ◌≤◌}
-use native.Mathlib.Nat.{mul-le-mul_right}
+use mathlib.Core.Path.{◌≡◌}
+use Prim.Native.Nat.{◌+◌, ◌*◌, ◌-◌, ◌≤◌}
 use lib.ListN.{length}
-use Rattle.sheet.proofs.PuttingValues.{putting, putting_done, putting_all, putting_more}
+use Rattle.sheet.proofs.PuttingValues.{putting}
 use Rattle.sheet.proofs.put.put_values.Given as goal
 
 abbrev pub invariant-loop-i : goal.invariant-loop-i

@@ -1,8 +1,8 @@
+-- `sheet::read::read_values` meets its contract. Assumes nothing.
 use native.Mathlib.Omega.{arith}
-use mathlib.Core.Path.{◌≡◌, refl, sym, ◌∙◌}
-use Prim.Native.Nat.{◌+◌, ◌*◌, ◌-◌, ◌≤◌}
+use mathlib.Core.Path.{refl, sym, ◌∙◌}
 use lib.ListN.{length, length-set}
-use Rattle.sheet.proofs.Filled.{reading, reading_all, reading_none, read_small, reading_more, next_small}
+use Rattle.sheet.proofs.Filled.{reading_all, reading_none, read_small, reading_more, next_small}
 use Rattle.sheet.proofs.read.read_values.Goals as goal
 
 pub loop-i-init : goal.loop-i-init
@@ -28,8 +28,7 @@ loop-i-smaller c = simp length-set (omega arith)
 pub loop-i-preserved : goal.loop-i-preserved
 loop-i-preserved c =
     let f = c.signed_value in
-    let l = c.loop-i in
-    (
+    let l = c.loop-i in (
       simp length-set (omega arith),
       simp length-set (omega arith),
       omega arith,

@@ -1,9 +1,8 @@
 -- `sheet::read::read_values` meets its contract. The invariant: what is read and what is left make the whole. Assumes nothing.
-use native.Mathlib.Omega.{arith}
-use mathlib.Core.Path.{◌≡◌, refl, sym, ◌∙◌}
+use mathlib.Core.Path.{◌≡◌}
 use Prim.Native.Nat.{◌+◌, ◌*◌, ◌-◌, ◌≤◌}
-use lib.ListN.{length, length-set}
-use Rattle.sheet.proofs.Filled.{reading, reading_all, reading_none, read_small, reading_more, next_small}
+use lib.ListN.{length}
+use Rattle.sheet.proofs.Filled.{reading}
 use Rattle.sheet.proofs.read.read_values.Given as goal
 
 abbrev pub invariant-loop-i : goal.invariant-loop-i

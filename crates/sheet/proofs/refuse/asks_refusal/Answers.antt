@@ -1,8 +1,6 @@
+-- `sheet::refuse::asks_refusal` meets its contract. Assumes nothing.
 use native.Mathlib.Omega.{arith}
-use mathlib.Core.Path.{◌≡◌, sym, ◌∙◌}
-use Prim.Native.Nat.{◌*◌, ◌-◌, ◌≤◌}
-use lib.ListN.{drop}
-use Rattle.rules.specs.Refusals.{asks_refusal}
+use mathlib.Core.Path.{sym, ◌∙◌}
 use Rattle.sheet.proofs.Refusing.{asks-start, ask_stops, ask_passes, asks-done}
 use Rattle.sheet.proofs.refuse.asks_refusal.Goals as goal
 

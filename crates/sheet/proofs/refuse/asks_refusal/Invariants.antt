@@ -1,10 +1,8 @@
 -- `sheet::refuse::asks_refusal` meets its contract. The invariant: what is left decides. Assumes nothing.
-use native.Mathlib.Omega.{arith}
-use mathlib.Core.Path.{◌≡◌, sym, ◌∙◌}
+use mathlib.Core.Path.{◌≡◌}
 use Prim.Native.Nat.{◌*◌, ◌-◌, ◌≤◌}
 use lib.ListN.{drop}
 use Rattle.rules.specs.Refusals.{asks_refusal}
-use Rattle.sheet.proofs.Refusing.{asks-start, ask_stops, ask_passes, asks-done}
 use Rattle.sheet.proofs.refuse.asks_refusal.Given as goal
 
 abbrev pub invariant-loop-i : goal.invariant-loop-i

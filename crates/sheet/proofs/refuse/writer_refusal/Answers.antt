@@ -1,6 +1,5 @@
 -- `sheet::refuse::writer_refusal` meets its contract: each return is the next in the order, where those before it did not come. Assumes nothing.
 use mathlib.Core.Path.{◌≡◌, sym, ◌∙◌}
-use Prim.Native.Nat.{ℕ}
 use Rattle.rules.specs.Sheet.{contents}
 use Rattle.laws.proofs.Writable.{shape_of, shaped}
 use Rattle.sheet.proofs.Refusing.{by_shape, by-asks, by-vectors, by-queries, by_room, by-none}

@@ -1,8 +1,7 @@
+-- `sheet::values::all_fit` meets its contract. Assumes nothing.
 use native.Mathlib.Omega.{arith}
-use mathlib.Core.Path.{◌≡◌, refl, ◌∙◌}
-use Prim.Native.Nat.{◌-◌, ◌≤◌}
-use lib.ListN.{length, drop}
-use Rattle.rules.specs.Bits.{all_fit}
+use mathlib.Core.Path.{refl, ◌∙◌}
+use Rattle.std.proofs.Common.{rules}
 use Rattle.sheet.proofs.Signs.{all_stops, all_passes, all_done}
 use Rattle.sheet.proofs.values.all_fit.Goals as goal
 
@@ -17,7 +16,7 @@ returns-then-not-fits_width c =
     let fit = c.fits_width in
     let loop = c.loop-i in
     let a = c.args in
-    all_stops a.c a.values.now loop.i c.loop-i-test.true (record { sfits = c.fits_width-arg-1.given })
+    all_stops a.c a.values.now loop.i c.loop-i-test.true (record { sfits = search rules })
     fit.result fit.ensures c.if-not-fits_width.true
     ∙ loop.invariant.1
 
@@ -27,7 +26,7 @@ loop-i-preserved c =
     let loop = c.loop-i in
     let a = c.args in (
       omega arith,
-      all_passes a.c a.values.now loop.i c.loop-i-test.true (record { sfits = c.fits_width-arg-1.given })
+      all_passes a.c a.values.now loop.i c.loop-i-test.true (record { sfits = search rules })
           fit.result fit.ensures c.if-not-fits_width.false
           ∙ loop.invariant.1,
     )

@@ -1,10 +1,8 @@
 -- `sheet::values::all_fit` meets its contract. The invariant: what is left decides. Assumes nothing.
-use native.Mathlib.Omega.{arith}
-use mathlib.Core.Path.{◌≡◌, refl, ◌∙◌}
+use mathlib.Core.Path.{◌≡◌}
 use Prim.Native.Nat.{◌-◌, ◌≤◌}
 use lib.ListN.{length, drop}
 use Rattle.rules.specs.Bits.{all_fit}
-use Rattle.sheet.proofs.Signs.{all_stops, all_passes, all_done}
 use Rattle.sheet.proofs.values.all_fit.Given as goal
 
 abbrev pub invariant-loop-i : goal.invariant-loop-i
