@@ -37,5 +37,8 @@ pub extern "C" fn magpiehinge_search(
     ensures walked { walked.new
         ≡ cell_after (search_answer (ask n d vectors.now table.now query.now start threshold width k) ids.old distances.old trail.old) (λ c. c.walked) walked.old }
 {
-    cabi::searches::magpiehinge_search(n, d, vectors, table, query, start, threshold, width, k, ids, distances, trail, found, seen, walked)
+    cabi::searches::magpiehinge_search(
+        n, d, vectors, table, query, start, threshold, width, k, ids, distances, trail, found,
+        seen, walked,
+    )
 }

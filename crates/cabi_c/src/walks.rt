@@ -26,7 +26,9 @@ pub extern "C" fn magpiehinge_step(
     ensures moved { moved.new
         ≡ cell_after (step_answer n d vectors.now table.now query.now threshold (at current.old moves.old)) moved_bit moved.old }
 {
-    cabi::walks::magpiehinge_step(n, d, vectors, table, query, threshold, current, moves, moved)
+    cabi::walks::magpiehinge_step(
+        n, d, vectors, table, query, threshold, current, moves, moved,
+    )
 }
 
 // The whole walk from a start: the last id, its D and the moves.
@@ -51,5 +53,7 @@ pub extern "C" fn magpiehinge_walk(
     ensures moves { moves.new
         ≡ cell_after (walk_answer n d vectors.now table.now query.now threshold start) (λ c. c.moves) moves.old }
 {
-    cabi::walks::magpiehinge_walk(n, d, vectors, table, query, start, threshold, last, distance, moves)
+    cabi::walks::magpiehinge_walk(
+        n, d, vectors, table, query, start, threshold, last, distance, moves,
+    )
 }

@@ -11,7 +11,6 @@ use Rattle.rules.specs.Order.{keyed}
 use Rattle.rules.specs.Edges.{Closing}
 use Rattle.rules.specs.Labels.{table_of}
 use Rattle.rules.specs.Entries.{Ask, farness, order_of, edges_of, searched, near_ids, near_distances}
-use Rattle.laws.specs.Demand3 as laws
 use Rattle.laws.proofs.Demand3.{wider, exact}
 use Rattle.laws.proofs.Tests.{count_all}
 use Rattle.laws.proofs.Keyed.{keyed_ordered, keyed_le}

@@ -9,7 +9,7 @@ use lib.ListN.{length, length-append}
 use Rattle.rules.specs.Points.{apart}
 use Rattle.rules.specs.Order.{on}
 use Rattle.rules.specs.Labels.{table_of}
-use Rattle.rules.specs.Search.{start, search, answer}
+use Rattle.rules.specs.Search.{search, answer}
 use Rattle.rules.specs.Sheet.{sheet_length, filling, points, coords, width, ask_count, vectors_of}
 use Rattle.rules.specs.Refusals.{outside, differ, search_refusal, sheet_refusal}
 use Rattle.rules.specs.Entries.{Ask, farness, order_of, edges_of, searched, near_ids, near_distances, counts_of, asked_refusal}

@@ -3,13 +3,6 @@ use mathlib.Core.Path.{refl, sym, ap, ◌∙◌}
 use Rattle.search.specs.Answer.{told}
 use Rattle.report.proofs.Asked.{refused_lines, answered, answered_lines}
 use Rattle.report.proofs.Pages.{placed_as}
-use Rattle.report.proofs.ask_lines.Reads as reads
-use Rattle.report.proofs.ask_lines.Lts as lts
-use Rattle.lines.proofs.ask_refused_line.Reads as ask-refused-line-reads
-use Rattle.report.proofs.found.found_lines.Reads as found-lines-reads
-use Rattle.report.proofs.found.wide.Reads as wide-reads
-use Rattle.report.proofs.found.wide8.Reads as wide8-reads
-use Rattle.search.proofs.search.Reads as search-reads
 use Rattle.report.proofs.ask_lines.Goals as goal
 
 pub found_lines-requires : goal.found_lines-requires
@@ -22,16 +15,16 @@ pub returns-in-Refused : goal.returns-in-Refused
 returns-in-Refused c =
     let told_is = ap told (sym c.in-Refused.is) ∙ c.search-searched.ensures.answer in
     let same = refused_lines _ _ _ _ _ _ _ _ told_is refl refl refl c.wide.ensures c.wide8.ensures in
- let both = placed_as _ _ _ _ same (c.ask_refused_line.ensures.answer, c.ask_refused_line.ensures.output) in record {
-  answer = both.0;
-  output = both.1;
-}
+    let both = placed_as _ _ _ _ same (c.ask_refused_line.ensures.answer, c.ask_refused_line.ensures.output) in record {
+      answer = both.0;
+      output = both.1;
+    }
 
 pub returns-in-Done : goal.returns-in-Done
 returns-in-Done c =
     let e = c.search-searched.ensures in
     let x = answered _ _ _ _ _ _ _ _ _ _ _ (ap told (sym c.in-Done.is) ∙ e.answer) e.ids e.distances e.trail refl refl refl in
- let both = placed_as _ _ _ _ (answered_lines _ _ _ c.wide-in-Done.ensures x) (c.found_lines.ensures.answer, c.found_lines.ensures.output) in record {
-  answer = both.0;
-  output = both.1;
-}
+    let both = placed_as _ _ _ _ (answered_lines _ _ _ c.wide-in-Done.ensures x) (c.found_lines.ensures.answer, c.found_lines.ensures.output) in record {
+      answer = both.0;
+      output = both.1;
+    }

@@ -3,11 +3,6 @@ use mathlib.Core.Path.{sym}
 use lib.Seq.{length-take-le}
 use Rattle.report.proofs.Pages.{placed_as, paged_told, paged_front}
 use Rattle.report.proofs.Room.{never_short}
-use Rattle.report.proofs.print.Reads as reads
-use Rattle.report.proofs.print.Lts as lts
-use Rattle.lines.proofs.place.Reads as place-reads
-use Rattle.report.proofs.whole.fill.Reads as fill-reads
-use Rattle.report.proofs.page.Reads as page-reads
 use Rattle.report.proofs.print.Goals as goal
 
 pub returns-in_default : goal.returns-in_default
@@ -23,7 +18,7 @@ slice_bounds-place-end c =
 pub returns : goal.returns
 returns c =
     let front = paged_front (paged_told c.in-End.is c.fill.ensures) in
- let both = placed_as _ _ _ _ front.1 (c.place.ensures.answer, c.place.ensures.output) in record {
-  answer = both.0;
-  output = both.1;
-}
+    let both = placed_as _ _ _ _ front.1 (c.place.ensures.answer, c.place.ensures.output) in record {
+      answer = both.0;
+      output = both.1;
+    }

@@ -13,14 +13,14 @@ returns-in-Refused c =
     let seen = cell (λ x. x.seen) s.seen.now o in
     let walked = cell (λ x. x.walked) s.walked.now o in
     record {
-  refusal = number o;
-  ids = e.ids;
-  distances = e.distances;
-  trail = e.trail;
-  found = found;
-  seen = seen;
-  walked = walked;
-}
+      refusal = number o;
+      ids = e.ids;
+      distances = e.distances;
+      trail = e.trail;
+      found = found;
+      seen = seen;
+      walked = walked;
+    }
 
 pub returns-in-Done : goal.returns-in-Done
 returns-in-Done c =
@@ -31,11 +31,11 @@ returns-in-Done c =
     let seen = cell (λ x. x.seen) s.seen.now o in
     let walked = cell (λ x. x.walked) s.walked.now o in
     record {
-  refusal = number o;
-  ids = e.ids;
-  distances = e.distances;
-  trail = e.trail;
-  found = found;
-  seen = seen;
-  walked = walked;
-}
+      refusal = number o;
+      ids = e.ids;
+      distances = e.distances;
+      trail = e.trail;
+      found = found;
+      seen = seen;
+      walked = walked;
+    }

@@ -16,16 +16,16 @@ returns-then-refusal-eq0 c =
     let e = c.point_refusal-refusal.ensures in
     let z = sym e ∙ c.if-refusal-eq0.true in
     record {
-  refusal = e;
-  start = sym (after_new z _ _);
-  count = sym (after_new z _ _);
-}
+      refusal = e;
+      start = sym (after_new z _ _);
+      count = sym (after_new z _ _);
+    }
 
 pub returns-else-refusal-eq0 : goal.returns-else-refusal-eq0
 returns-else-refusal-eq0 c =
     let e = c.point_refusal-refusal.ensures in
     record {
-  refusal = e;
-  start = sym (after_old (λ z. c.if-refusal-eq0.false (e ∙ z)) _ _);
-  count = sym (after_old (λ z. c.if-refusal-eq0.false (e ∙ z)) _ _);
-}
+      refusal = e;
+      start = sym (after_old (λ z. c.if-refusal-eq0.false (e ∙ z)) _ _);
+      count = sym (after_old (λ z. c.if-refusal-eq0.false (e ∙ z)) _ _);
+    }

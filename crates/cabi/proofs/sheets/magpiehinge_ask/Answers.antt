@@ -14,13 +14,13 @@ returns-in-Refused c =
     let most = cell (λ x. x.k) s.k.now o in
     let threshold = cell (λ x. x.threshold) s.threshold.now o in
     record {
-  refusal = number o;
-  query = e.1;
-  start = start;
-  width = width;
-  k = most;
-  threshold = threshold;
-}
+      refusal = number o;
+      query = e.1;
+      start = start;
+      width = width;
+      k = most;
+      threshold = threshold;
+    }
 
 pub returns-in-Numbers : goal.returns-in-Numbers
 returns-in-Numbers c =
@@ -32,10 +32,10 @@ returns-in-Numbers c =
     let most = cell (λ x. x.k) s.k.now o in
     let threshold = cell (λ x. x.threshold) s.threshold.now o in
     record {
-  refusal = number o;
-  query = e.1;
-  start = start;
-  width = width;
-  k = most;
-  threshold = threshold;
-}
+      refusal = number o;
+      query = e.1;
+      start = start;
+      width = width;
+      k = most;
+      threshold = threshold;
+    }

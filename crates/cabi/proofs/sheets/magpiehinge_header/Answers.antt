@@ -14,12 +14,12 @@ returns-in-Refused c =
     let bits = cell (λ x. x.c) s.c.now o in
     let asks = cell (λ x. x.asks) s.asks.now o in
     record {
-  refusal = number o;
-  n = points;
-  d = coords;
-  c = bits;
-  asks = asks;
-}
+      refusal = number o;
+      n = points;
+      d = coords;
+      c = bits;
+      asks = asks;
+    }
 
 pub returns-in-Holds : goal.returns-in-Holds
 returns-in-Holds c =
@@ -31,9 +31,9 @@ returns-in-Holds c =
     let bits = cell (λ x. x.c) s.c.now o in
     let asks = cell (λ x. x.asks) s.asks.now o in
     record {
-  refusal = number o;
-  n = points;
-  d = coords;
-  c = bits;
-  asks = asks;
-}
+      refusal = number o;
+      n = points;
+      d = coords;
+      c = bits;
+      asks = asks;
+    }

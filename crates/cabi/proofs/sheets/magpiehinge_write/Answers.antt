@@ -10,10 +10,10 @@ returns-in-Refused c =
     let s = c.args in
     let o = ap write_told (sym c.in-Refused.is) ∙ e.0 in
     record {
-  refusal = number o;
-  output = e.1;
-  written = cell (λ x. x) s.written.now o;
-}
+      refusal = number o;
+      output = e.1;
+      written = cell (λ x. x) s.written.now o;
+    }
 
 pub returns-in-Length : goal.returns-in-Length
 returns-in-Length c =
@@ -21,7 +21,7 @@ returns-in-Length c =
     let s = c.args in
     let o = ap write_told (sym c.in-Length.is) ∙ e.0 in
     record {
-  refusal = number o;
-  output = e.1;
-  written = cell (λ x. x) s.written.now o;
-}
+      refusal = number o;
+      output = e.1;
+      written = cell (λ x. x) s.written.now o;
+    }

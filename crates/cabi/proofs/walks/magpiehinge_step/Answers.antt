@@ -12,11 +12,11 @@ returns-in-Refused c =
     let s = c.args in
     let o = ap told (sym c.in-Refused.is) ∙ e.0 in
     record {
-  refusal = number o;
-  current = ap (λ (w : Walk). w.current) e.1;
-  moves = ap (λ (w : Walk). w.moves) e.1;
-  moved = cell moved_bit s.moved.now o;
-}
+      refusal = number o;
+      current = ap (λ (w : Walk). w.current) e.1;
+      moves = ap (λ (w : Walk). w.moves) e.1;
+      moved = cell moved_bit s.moved.now o;
+    }
 
 pub returns-in-Moved : goal.returns-in-Moved
 returns-in-Moved c =
@@ -24,11 +24,11 @@ returns-in-Moved c =
     let s = c.args in
     let o = ap told (sym c.in-Moved.is) ∙ e.0 in
     record {
-  refusal = number o;
-  current = ap (λ (w : Walk). w.current) e.1;
-  moves = ap (λ (w : Walk). w.moves) e.1;
-  moved = cell moved_bit s.moved.now o;
-}
+      refusal = number o;
+      current = ap (λ (w : Walk). w.current) e.1;
+      moves = ap (λ (w : Walk). w.moves) e.1;
+      moved = cell moved_bit s.moved.now o;
+    }
 
 pub returns-in-AtEnd : goal.returns-in-AtEnd
 returns-in-AtEnd c =
@@ -36,8 +36,8 @@ returns-in-AtEnd c =
     let s = c.args in
     let o = ap told (sym c.in-AtEnd.is) ∙ e.0 in
     record {
-  refusal = number o;
-  current = ap (λ (w : Walk). w.current) e.1;
-  moves = ap (λ (w : Walk). w.moves) e.1;
-  moved = cell moved_bit s.moved.now o;
-}
+      refusal = number o;
+      current = ap (λ (w : Walk). w.current) e.1;
+      moves = ap (λ (w : Walk). w.moves) e.1;
+      moved = cell moved_bit s.moved.now o;
+    }

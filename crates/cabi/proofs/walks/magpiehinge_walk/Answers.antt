@@ -13,11 +13,11 @@ returns-in-Refused c =
     let distance = cell (λ x. x.distance) s.distance.now o in
     let moves = cell (λ x. x.moves) s.moves.now o in
     record {
-  refusal = number o;
-  last = last;
-  distance = distance;
-  moves = moves;
-}
+      refusal = number o;
+      last = last;
+      distance = distance;
+      moves = moves;
+    }
 
 pub returns-in-Ended : goal.returns-in-Ended
 returns-in-Ended c =
@@ -28,8 +28,8 @@ returns-in-Ended c =
     let distance = cell (λ x. x.distance) s.distance.now o in
     let moves = cell (λ x. x.moves) s.moves.now o in
     record {
-  refusal = number o;
-  last = last;
-  distance = distance;
-  moves = moves;
-}
+      refusal = number o;
+      last = last;
+      distance = distance;
+      moves = moves;
+    }

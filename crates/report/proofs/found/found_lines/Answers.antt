@@ -1,9 +1,6 @@
 -- `report::found::found_lines` meets its contract. Assumes nothing.
 use mathlib.Core.Path.{sym}
 use lib.Seq.{length-take-le}
-use Rattle.report.proofs.found.found_lines.Reads as reads
-use Rattle.report.proofs.found.found_lines.Lts as lts
-use Rattle.lines.proofs.answer_lines.Reads as answer-lines-reads
 use Rattle.report.proofs.found.found_lines.Goals as goal
 
 pub slice_bounds-answer_lines-end : goal.slice_bounds-answer_lines-end

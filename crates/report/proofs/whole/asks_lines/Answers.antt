@@ -1,15 +1,8 @@
-use Prim.Native.Nat.{ℕ, ◌+◌, ◌-◌, ◌≤◌, ◌<◌}
+use Prim.Native.Nat.{ℕ, ◌+◌, ◌<◌}
 use mathlib.Core.Path.{◌≡◌, subst}
-use lib.ListN.{length}
-use Rattle.rules.specs.Program.{asks_lines}
-use Rattle.lines.specs.declared.Placed.TheVariants.{End}
-use Rattle.report.specs.Pages.{Paged}
 use Rattle.report.proofs.Sheets.{asks_none, asks-next, asks-short}
 use borrow.Author.Rules.{rules}
 use native.Mathlib.Omega.{arith}
-use Rattle.report.proofs.whole.asks_lines.Reads as reads
-use Rattle.report.proofs.whole.asks_lines.Lts as lts
-use Rattle.report.proofs.whole.sheet_ask.Reads as sheet-ask-reads
 use Rattle.report.proofs.whole.asks_lines.Goals as goal
 
 pub loop-i-init : goal.loop-i-init
@@ -21,9 +14,9 @@ overflow_cast-i c = omega (arith, c.loop-i-test.true)
 pub sheet_ask-requires : goal.sheet_ask-requires
 sheet_ask-requires c =
     record {
-  sheet_given = c.requires.sheet_given;
-  number_bound = (subst (λ (m : ℕ). c.loop-i.i < m) c.requires.asks_value.0 c.loop-i-test.true, c.loop-i.invariant.1);
-}
+      sheet_given = c.requires.sheet_given;
+      number_bound = (subst (λ (m : ℕ). c.loop-i.i < m) c.requires.asks_value.0 c.loop-i-test.true, c.loop-i.invariant.1);
+    }
 
 pub returns-in_default : goal.returns-in_default
 returns-in_default c =

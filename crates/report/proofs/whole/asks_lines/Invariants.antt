@@ -1,16 +1,10 @@
 -- `report::whole::asks_lines` meets its contract. Assumes nothing.
-use Prim.Native.Nat.{ℕ, ◌+◌, ◌-◌, ◌≤◌, ◌<◌}
-use mathlib.Core.Path.{◌≡◌, subst}
+use Prim.Native.Nat.{◌-◌, ◌≤◌}
+use mathlib.Core.Path.{◌≡◌}
 use lib.ListN.{length}
 use Rattle.rules.specs.Program.{asks_lines}
 use Rattle.lines.specs.declared.Placed.TheVariants.{End}
 use Rattle.report.specs.Pages.{Paged}
-use Rattle.report.proofs.Sheets.{asks_none, asks-next, asks-short}
-use borrow.Author.Rules.{rules}
-use native.Mathlib.Omega.{arith}
-use Rattle.report.proofs.whole.asks_lines.Reads as reads
-use Rattle.report.proofs.whole.asks_lines.Lts as lts
-use Rattle.report.proofs.whole.sheet_ask.Reads as sheet-ask-reads
 use Rattle.report.proofs.whole.asks_lines.Given as goal
 
 abbrev pub invariant-loop-i : goal.invariant-loop-i

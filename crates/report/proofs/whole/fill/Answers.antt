@@ -6,14 +6,7 @@ use Rattle.sheet.specs.Answers.{head_told}
 use Rattle.report.proofs.Pages.{paged}
 use Rattle.report.proofs.Printed.{sheet-refused, sheet_headed}
 use native.Mathlib.Omega.{arith}
-use Rattle.report.proofs.whole.fill.Reads as reads
-use Rattle.report.proofs.whole.fill.Lts as lts
-use Rattle.lines.proofs.refused_line.Reads as refused-line-reads
-use Rattle.report.proofs.whole.set_lines.Reads as set-lines-reads
-use Rattle.report.proofs.found.wide8.Reads as wide8-reads
-use Rattle.sheet.proofs.header.Reads as header-reads
 use Rattle.report.proofs.whole.fill.Goals as goal
-
 
 pub overflow_mul-cells : goal.overflow_mul-cells
 overflow_mul-cells c = let h = sheet_headed _ _ _ _ _ (ap head_told (sym c.in-Holds.is) ∙ c.header-headed.ensures) in omega (arith, small_product _ _ h.few-points h.few-coordinates)
@@ -45,9 +38,9 @@ set_lines-requires c =
     let vectors = small_product _ _ h.few-points h.few-coordinates in
     let table = small-square _ h.few-points in
     record {
-  sheet_given = h.given;
-  asks_value = (h.asks_are, length-take-le _ _ vectors, length-take-le _ _ table, length-take-le _ _ h.few-coordinates);
-}
+      sheet_given = h.given;
+      asks_value = (h.asks_are, length-take-le _ _ vectors, length-take-le _ _ table, length-take-le _ _ h.few-coordinates);
+    }
 
 pub returns-in-Refused : goal.returns-in-Refused
 returns-in-Refused c =

@@ -4,12 +4,6 @@ use Rattle.report.proofs.Pages.{paged, paged_front}
 use Rattle.report.proofs.Sheets.{asks-few, set_read, table_built}
 use Rattle.report.proofs.Printed.{whole_set, whole-short}
 use native.Mathlib.Omega.{arith}
-use Rattle.report.proofs.whole.set_lines.Reads as reads
-use Rattle.report.proofs.whole.set_lines.Lts as lts
-use Rattle.lines.proofs.set_line.Reads as set-line-reads
-use Rattle.report.proofs.whole.asks_lines.Reads as asks-lines-reads
-use Rattle.sheet.proofs.vectors.Reads as vectors-reads
-use Rattle.table.proofs.build.Reads as build-reads
 use Rattle.report.proofs.whole.set_lines.Goals as goal
 
 pub returns-in_default : goal.returns-in_default
@@ -23,9 +17,9 @@ asks_lines-requires c =
     let page = paged _ _ _ _ refl (sym c.in-End.is ∙ c.set_line.ensures.answer, c.set_line.ensures.output) in
     let set = set_read c.requires.sheet_given _ _ c.requires.asks_value.1 c.vectors.ensures.1 in
     record {
-  sheet_given = set;
-  asks_value = (c.requires.asks_value.0, omega (arith, c.requires.asks_value.0), c.requires.asks_value.3, (paged_front page).0);
-}
+      sheet_given = set;
+      asks_value = (c.requires.asks_value.0, omega (arith, c.requires.asks_value.0), c.requires.asks_value.3, (paged_front page).0);
+    }
 
 pub returns : goal.returns
 returns c =

@@ -4,10 +4,6 @@ use Rattle.rules.specs.Program.{lines_of}
 use Rattle.sheet.specs.Answers.{ask_told}
 use Rattle.report.proofs.Pages.{paged}
 use Rattle.report.proofs.Sheets.{not-refused, ask_read}
-use Rattle.report.proofs.whole.sheet_ask.Reads as reads
-use Rattle.report.proofs.whole.sheet_ask.Lts as lts
-use Rattle.report.proofs.ask_lines.Reads as ask-lines-reads
-use Rattle.sheet.proofs.ask.Reads as ask-reads
 use Rattle.report.proofs.whole.sheet_ask.Goals as goal
 
 pub returns-in-Refused : goal.returns-in-Refused
