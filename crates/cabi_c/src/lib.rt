@@ -1,5 +1,5 @@
-// What C calls: each function of `cabi` under its name as a symbol of the archive, with the same clauses. A static library of its own, since no other
-// crate can stand on one.
+// What C calls: each function of `cabi` under its name as a symbol of the archive, with the same clauses and, as `call`, the record by which `demands`
+// speaks of it. A static library of its own, since no other crate can stand on one.
 #![tactic(auto)]
 
 mod searches;

@@ -2,6 +2,7 @@
 ghost use Rattle.std.specs.Prelude.{◌≡◌};
 ghost use Rattle.rules.specs.Entries.{ask, search_answer, ids_after, distances_after, trail_after};
 ghost use Rattle.cabi.specs.Plain.{number_of, cell_after};
+ghost use Rattle.demands.specs.CallsInC.{SearchInC};
 
 // A search of a table: ids, squared distances and trail in their buffers, and the three counts.
 #[unsafe(no_mangle)]
@@ -36,6 +37,7 @@ pub extern "C" fn magpiehinge_search(
         ≡ cell_after (search_answer (ask n d vectors.now table.now query.now start threshold width k) ids.old distances.old trail.old) (λ c. c.seen) seen.old }
     ensures walked { walked.new
         ≡ cell_after (search_answer (ask n d vectors.now table.now query.now start threshold width k) ids.old distances.old trail.old) (λ c. c.walked) walked.old }
+    ensures call { SearchInC (ask n d vectors.now table.now query.now start threshold width k) ids.old distances.old trail.old found.old seen.old walked.old result ids.new distances.new trail.new found.new seen.new walked.new }
 {
     cabi::searches::magpiehinge_search(
         n, d, vectors, table, query, start, threshold, width, k, ids, distances, trail, found,

@@ -4,6 +4,8 @@ ghost use Rattle.rules.specs.Sheet.{contents};
 ghost use Rattle.rules.specs.Refusals.{vectors_refusal};
 ghost use Rattle.rules.specs.Entries.{write_answer, output_after, header_answer, vectors_after, ask_answer, query_after};
 ghost use Rattle.cabi.specs.Plain.{number_of, cell_after};
+ghost use Rattle.demands.specs.Calls.{VectorsCall};
+ghost use Rattle.demands.specs.CallsInC.{WriteInC, HeaderInC, AskInC};
 
 // Writes a sheet. `written` becomes its length.
 #[unsafe(no_mangle)]
@@ -24,6 +26,7 @@ pub extern "C" fn magpiehinge_write(
         ≡ output_after (contents n d c asks vectors.now numbers.now queries.now) output.old }
     ensures written { written.new
         ≡ cell_after (write_answer (contents n d c asks vectors.now numbers.now queries.now) output.old) (λ l. l) written.old }
+    ensures call { WriteInC (contents n d c asks vectors.now numbers.now queries.now) output.old written.old result output.new written.new }
 {
     cabi::sheets::magpiehinge_write(n, d, c, asks, vectors, numbers, queries, output, written)
 }
@@ -42,6 +45,7 @@ pub extern "C" fn magpiehinge_header(
     ensures d { d.new ≡ cell_after (header_answer sheet.now) (λ c. c.d) d.old }
     ensures c { c.new ≡ cell_after (header_answer sheet.now) (λ c. c.c) c.old }
     ensures asks { asks.new ≡ cell_after (header_answer sheet.now) (λ c. c.asks) asks.old }
+    ensures call { HeaderInC sheet.now n.old d.old c.old asks.old result n.new d.new c.new asks.new }
 {
     cabi::sheets::magpiehinge_header(sheet, n, d, c, asks)
 }
@@ -49,7 +53,8 @@ pub extern "C" fn magpiehinge_header(
 // Reads the vectors of a sheet into n × d cells.
 #[unsafe(no_mangle)]
 pub extern "C" fn magpiehinge_vectors(sheet: &[u8], buffer: &mut [i8]) -> u8
-    ensures { (result ≡ vectors_refusal sheet.now (length buffer.old)) × (buffer.new ≡ vectors_after sheet.now buffer.old) }
+    ensures value { (result ≡ vectors_refusal sheet.now (length buffer.old)) × (buffer.new ≡ vectors_after sheet.now buffer.old) }
+    ensures call { VectorsCall sheet.now buffer.old result buffer.new }
 {
     cabi::sheets::magpiehinge_vectors(sheet, buffer)
 }
@@ -74,6 +79,7 @@ pub extern "C" fn magpiehinge_ask(
     ensures k { k.new ≡ cell_after (ask_answer sheet.now number query.old) (λ c. c.k) k.old }
     ensures threshold { threshold.new
         ≡ cell_after (ask_answer sheet.now number query.old) (λ c. c.threshold) threshold.old }
+    ensures call { AskInC sheet.now number query.old start.old width.old k.old threshold.old result query.new start.new width.new k.new threshold.new }
 {
     cabi::sheets::magpiehinge_ask(sheet, number, query, start, width, k, threshold)
 }

@@ -3,6 +3,7 @@ ghost use Rattle.std.specs.Prelude.{◌≡◌};
 ghost use Rattle.rules.specs.Entries.{step_answer, record_after, walk_answer};
 ghost use Rattle.walk.specs.Answers.{at};
 ghost use Rattle.cabi.specs.Plain.{number_of, cell_after, moved_bit};
+ghost use Rattle.demands.specs.CallsInC.{StepInC, WalkInC};
 
 // One step of a walk record, current and moves. `moved` becomes 1 for "moved" and 0 for "at end".
 #[unsafe(no_mangle)]
@@ -25,6 +26,7 @@ pub extern "C" fn magpiehinge_step(
         ≡ (record_after n d vectors.now table.now query.now threshold (at current.old moves.old)).moves }
     ensures moved { moved.new
         ≡ cell_after (step_answer n d vectors.now table.now query.now threshold (at current.old moves.old)) moved_bit moved.old }
+    ensures call { StepInC n d vectors.now table.now query.now threshold (at current.old moves.old) moved.old result current.new moves.new moved.new }
 {
     cabi::walks::magpiehinge_step(
         n, d, vectors, table, query, threshold, current, moves, moved,
@@ -52,6 +54,7 @@ pub extern "C" fn magpiehinge_walk(
         ≡ cell_after (walk_answer n d vectors.now table.now query.now threshold start) (λ c. c.distance) distance.old }
     ensures moves { moves.new
         ≡ cell_after (walk_answer n d vectors.now table.now query.now threshold start) (λ c. c.moves) moves.old }
+    ensures call { WalkInC n d vectors.now table.now query.now threshold start last.old distance.old moves.old result last.new distance.new moves.new }
 {
     cabi::walks::magpiehinge_walk(
         n, d, vectors, table, query, start, threshold, last, distance, moves,

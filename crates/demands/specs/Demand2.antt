@@ -11,7 +11,7 @@ use Rattle.search.specs.declared.Counts.{Counts}
 use Rattle.walk.specs.declared.End.{End}
 
 -- The labels of a built table: 65,535 on the diagonal, 0 for a direct edge, else the label of the rule (`laws`, Labelled). `direct` is whatever solves the
--- rule for direct edges; there is one solution (`laws`, `direct-one`).
+-- rule for direct edges; there is one solution (`laws`, `direct_one`).
 pub record Labelled (n d : ℕ) (vectors : List ℤ) (table : List ℕ) (direct : ℕ → ℕ → Bool) : Type 0 where
   pub whole : length table ≡ n * n
   pub diagonal : (u : ℕ) → u < n → get_or table (u * n + u) 0 ≡ 65535

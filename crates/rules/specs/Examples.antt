@@ -1,4 +1,4 @@
--- Document 01, "Sheet room examples", those marked P, and some beside them. `proofs/Examples` proves the list, and `printed-example`.
+-- Document 01, "Sheet room examples", those marked P, and some beside them. `proofs/Examples` proves the list, and `printed_example`.
 use Rattle.std.specs.Prelude.{ℕ, ◌≡◌, Bool, true, false, List, [], ◌∷◌, ◌++◌, ℤ, pos, negsuc, replicate}
 use Rattle.rules.specs.Points.{dist, apart}
 use Rattle.rules.specs.Edges.{between, direct}

@@ -1,4 +1,4 @@
--- What the proofs by hand of the reading place share: its type and laws, and the token of the lifetime that it holds. Assumes nothing.
+-- For a proof by hand of the reading place, which no function needs now: its type and laws, and the token of the lifetime that it holds. Assumes nothing.
 use seplogic.Ra.Ura.{Ura}
 use base.Fml.{Lft, Share, ftrue, flft}
 use contract.Lifetimes.{Lfts}
