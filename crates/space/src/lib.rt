@@ -85,9 +85,8 @@ pub fn distance(a: &[i8], b: &[i8]) -> u32
         sum += blocks::sixteen(a, b, i);
         i += 16;
     }
-    while i < n {
-        sum += blocks::plain(a, b, i);
-        i += 1;
+    for last in i..n {
+        sum += blocks::pair(a, b, last);
     }
     sum
 }

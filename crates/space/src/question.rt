@@ -1,5 +1,5 @@
 // What a search and a walk are asked of: a set, its table at a threshold, and a query.
-ghost use Rattle.std.specs.Prelude.{◌≡◌, ◌≤◌, ◌*◌, length, IfOk};
+ghost use Rattle.std.specs.Prelude.{◌≡◌, ◌≤◌, ◌<◌, ◌*◌, length, IfOk, OnOk};
 ghost use Rattle.rules.specs.Points.{away};
 ghost use Rattle.rules.specs.Order.{keyed};
 ghost use Rattle.rules.specs.Refusals.{start_refusal};
@@ -34,6 +34,7 @@ impl<'a> Question<'a> {
     pub fn check(&self, start: usize) -> Result<Asked<'a>, Refusal>
         ensures refusal { number_in result
             ≡ start_refusal self.now.set.n self.now.set.d (length self.now.set.vectors.now) (length self.now.table.now) (length self.now.query.now) start }
+        ensures start { OnOk result (start < self.now.set.n) }
         ensures set { IfOk result (λ asked. asked.points.set ≡ self.now.set) }
         ensures table { IfOk result (λ asked. asked.table ≡ self.now.table) }
         ensures query { IfOk result (λ asked. asked.query ≡ self.now.query) }

@@ -37,8 +37,8 @@ impl<'a> Set<'a> {
     pub fn point_refusal(&self, id: usize) -> Result<(), Refusal>
         ensures { number_in result ≡ point_refusal self.now.n self.now.d (length self.now.vectors.now) id }
     {
-        let points = self.check()?;
-        if points.set.n <= id {
+        self.check()?;
+        if self.n <= id {
             return Err(Refusal::Id);
         }
         Ok(())
