@@ -2,3 +2,4 @@
 pub mod Sums
 pub mod Measured
 pub mod Told
+pub mod Same
