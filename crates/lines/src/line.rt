@@ -49,19 +49,19 @@ fn numbers<S: Sink>(ids: &[u16], sink: &mut S) -> Result<(), TooShort>
     Ok(())
 }
 
-// A `u32` has no `usize::from`: the cast is the conversion.
-fn pair<S: Sink>(id: u16, distance: u32, sink: &mut S) -> Result<(), TooShort>
+fn pair<S: Sink>(id: usize, distance: usize, sink: &mut S) -> Result<(), TooShort>
     ensures { Puts S.room S.took sink.old (part id ++ part distance) sink.new result }
 {
-    number(usize::from(id), sink)?;
-    number(distance as usize, sink)
+    number(id, sink)?;
+    number(distance, sink)
 }
 
 fn number_pairs<S: Sink>(ids: &[u16], distances: &[u32], sink: &mut S) -> Result<(), TooShort>
     ensures { Puts S.room S.took sink.old (pairs ids.now distances.now) sink.new result }
 {
     for (id, distance) in ids.iter().zip(distances) {
-        pair(*id, *distance, sink)?;
+        // `usize::from` takes no `u32`: here the cast is the conversion.
+        pair(usize::from(*id), *distance as usize, sink)?;
     }
     Ok(())
 }
