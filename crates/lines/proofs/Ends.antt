@@ -1,11 +1,16 @@
 -- Where runs of bytes end, one after the other. Assumes nothing.
-use Rattle.std.proofs.Common.{◌≡◌, ℕ, ◌+◌, ◌<◌, ◌≤◌, List, ◌++◌, length, take, drop, Result, Ok, Err, IsErr, sym, ap, ◌∙◌, arith, append_assoc, take-append-drop}
+use Rattle.std.proofs.Common.{◌≡◌, ℕ, ◌+◌, ◌<◌, ◌≤◌, List, ◌++◌, length, take, drop, Result, Ok, Err, IsErr, refl, sym, ap, ◌∙◌, arith, append_assoc, take-append-drop}
 use mathlib.Core.Logic.{⊎_elim}
 use borrow.Author.Tests.{le-leb, lt-leb}
 use Rattle.std.proofs.lemmas.Bool.{false≢true}
 use Rattle.lines.specs.declared.TooShort.{TooShort}
 use Rattle.lines.specs.Placing.{too_short, ending, put, placed_answer, placed_after}
 use Rattle.laws.proofs.Tests.{le_or_lt}
+
+-- the error has one value
+pub is_too_short : {r : Result ℕ TooShort} → IsErr r → Err too_short ≡ r
+is_too_short {r = Ok n} q = absurd (false≢true q)
+is_too_short {r = Err e} q = refl
 
 pub ends_in : (at m limit : ℕ) → at + m ≤ limit → ending at m limit ≡ Ok (at + m)
 unfolding ending
@@ -80,5 +85,4 @@ pub placed_none : (at : ℕ) (l old : List ℕ) {r : Result ℕ TooShort}
     → length old < at + length l
     → (r ≡ placed_answer at l old) × (old ≡ placed_after at l old)
 unfolding placed_answer
-placed_none at l old {r = Ok n} q h = absurd (false≢true q)
-placed_none at l old {r = Err e} q h = (sym (ends_past at (length l) (length old) h), sym (after_past at l old h))
+placed_none at l old q h = (sym (is_too_short q) ∙ sym (ends_past at (length l) (length old) h), sym (after_past at l old h))
