@@ -35,7 +35,8 @@ pub struct Found {
     pub walked: usize,
 }
 
-// Each function below answers the place after the bytes.
+// Each function below answers the place after the bytes. The buffer and the place stay two parameters: a struct of both would hold the `&mut`, and each
+// contract would have to say that it still holds the same one, which is no plainer.
 fn placed<L: Line>(line: &L, output: &mut [u8], at: usize) -> Result<usize, TooShort>
     ensures answer { result ≡ placed_answer at (L.bytes line.now) output.old }
     ensures output { output.new ≡ placed_after at (L.bytes line.now) output.old }
@@ -98,7 +99,7 @@ pub fn found_line(counts: Found, output: &mut [u8], at: usize) -> Result<usize, 
     placed(&counts, output, at)
 }
 
-// near ID D ID D ..
+// near ID D ID D .. The ids and the distances are two slices because the C interface of the search lends two.
 pub fn near_line(
     ids: &[u16],
     distances: &[u32],
