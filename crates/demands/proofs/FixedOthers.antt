@@ -8,7 +8,8 @@ use Rattle.walk.specs.declared.Stepped.{Stepped}
 use Rattle.walk.specs.Answers.{at, record_in}
 use Rattle.walk.proofs.Told.{stepped-told}
 use Rattle.sheet.specs.declared.place.Place.{Place}
-use Rattle.lines.specs.declared.Placed.{Placed}
+use Rattle.std.specs.Prelude.{Result}
+use Rattle.lines.specs.declared.TooShort.{TooShort}
 use Rattle.demands.specs.Calls.{StepCall}
 use Rattle.demands.specs.OtherCalls.{OutsideCall, SetRefusalCall, StartRefusalCall, SmallerCall, MeasureCall, LabelCall, FieldCall, PlacedCall, PageCall}
 use Rattle.demands.proofs.Fixed.{one}
@@ -56,7 +57,7 @@ field_fixed g h = one g.answers h.answers
 
 -- ---- every function of `lines`, and `report::ask_lines` and `report::print`, whatever the bytes l
 
-pub placed_fixed : {from : ℕ} {l output o p : List ℕ} {r s : Placed} → PlacedCall from l output r o → PlacedCall from l output s p → (r ≡ s) × (o ≡ p)
+pub placed_fixed : {from : ℕ} {l output o p : List ℕ} {r s : Result ℕ TooShort} → PlacedCall from l output r o → PlacedCall from l output s p → (r ≡ s) × (o ≡ p)
 placed_fixed g h = (one g.answers h.answers, one g.output_holds h.output_holds)
 
 pub page_fixed : {p q : List ℕ} → PageCall p → PageCall q → p ≡ q

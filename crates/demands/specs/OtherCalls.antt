@@ -1,11 +1,11 @@
 -- What the public functions beside the entries promise of one call, as `Calls` says it of the entries.
-use Rattle.std.specs.Prelude.{ℕ, min, ◌≡◌, Bool, List, ℤ, take, replicate}
+use Rattle.std.specs.Prelude.{ℕ, min, ◌≡◌, Bool, List, ℤ, take, replicate, Result}
 use Rattle.rules.specs.Points.{dist}
 use Rattle.rules.specs.Labels.{label_of}
 use Rattle.rules.specs.Sheet.{field_at}
 use Rattle.rules.specs.Refusals.{outside, set_refusal, start_refusal}
 use Rattle.rules.specs.Entries.{point_of}
-use Rattle.lines.specs.declared.Placed.{Placed}
+use Rattle.lines.specs.declared.TooShort.{TooShort}
 use Rattle.lines.specs.Placing.{placed_answer, placed_after}
 
 -- ---- `space`
@@ -37,7 +37,7 @@ pub record FieldCall (ys : List ℕ) (at bits r : ℕ) : Type 0 where
 
 -- ---- every function of `lines`, and `report::ask_lines` and `report::print`: the bytes l are placed from `at` on where there is room for all of them
 
-pub record PlacedCall (at : ℕ) (l output : List ℕ) (r : Placed) (output' : List ℕ) : Type 0 where
+pub record PlacedCall (at : ℕ) (l output : List ℕ) (r : Result ℕ TooShort) (output' : List ℕ) : Type 0 where
   pub answers : r ≡ placed_answer at l output
   pub output_holds : output' ≡ placed_after at l output
 

@@ -7,7 +7,7 @@ ghost use Rattle.rules.specs.Program.{lines_of, printed};
 ghost use Rattle.lines.specs.Placing.{three_lines};
 ghost use Rattle.demands.specs.OtherCalls.{OutsideCall, SetRefusalCall, StartRefusalCall, SmallerCall, MeasureCall, LabelCall, FieldCall, PlacedCall, PageCall};
 
-use lines::Placed;
+use lines::{Found, TooShort};
 
 fn is_outside_call(low: usize, high: usize, x: usize) -> bool
     ensures { OutsideCall low high x result }
@@ -58,69 +58,75 @@ fn field_from_call(sheet: &[u8], at: usize, bits: usize) -> u16
     sheet::place::field_from(sheet, at, bits)
 }
 
-fn place_call(bytes: &[u8], output: &mut [u8], at: usize) -> Placed
+fn place_call(bytes: &[u8], output: &mut [u8], at: usize) -> Result<usize, TooShort>
     ensures { PlacedCall at bytes.now output.old result output.new }
 {
     lines::place(bytes, output, at)
 }
 
-fn set_line_call(n: usize, d: usize, asks: usize, output: &mut [u8], at: usize) -> Placed
+fn set_line_call(
+    n: usize,
+    d: usize,
+    asks: usize,
+    output: &mut [u8],
+    at: usize,
+) -> Result<usize, TooShort>
     ensures { PlacedCall at (set_line n d asks) output.old result output.new }
 {
     lines::set_line(n, d, asks, output, at)
 }
 
-fn ask_refused_line_call(ask: usize, refusal: usize, output: &mut [u8], at: usize) -> Placed
+fn ask_refused_line_call(
+    ask: usize,
+    refusal: usize,
+    output: &mut [u8],
+    at: usize,
+) -> Result<usize, TooShort>
     ensures { PlacedCall at (ask_refused_line ask refusal) output.old result output.new }
 {
     lines::ask_refused_line(ask, refusal, output, at)
 }
 
-fn refused_line_call(refusal: usize, output: &mut [u8], at: usize) -> Placed
+fn refused_line_call(refusal: usize, output: &mut [u8], at: usize) -> Result<usize, TooShort>
     ensures { PlacedCall at (refused_line refusal) output.old result output.new }
 {
     lines::refused_line(refusal, output, at)
 }
 
-fn found_line_call(
-    ask: usize,
-    found: usize,
-    seen: usize,
-    walked: usize,
-    output: &mut [u8],
-    at: usize,
-) -> Placed
-    ensures { PlacedCall at (found_line ask found seen walked) output.old result output.new }
+fn found_line_call(counts: Found, output: &mut [u8], at: usize) -> Result<usize, TooShort>
+    ensures { PlacedCall at (found_line counts.ask counts.found counts.seen counts.walked) output.old result output.new }
 {
-    lines::found_line(ask, found, seen, walked, output, at)
+    lines::found_line(counts, output, at)
 }
 
-fn near_line_call(ids: &[u16], distances: &[u32], output: &mut [u8], at: usize) -> Placed
+fn near_line_call(
+    ids: &[u16],
+    distances: &[u32],
+    output: &mut [u8],
+    at: usize,
+) -> Result<usize, TooShort>
     ensures { PlacedCall at (near_line ids.now distances.now) output.old result output.new }
 {
     lines::near_line(ids, distances, output, at)
 }
 
-fn trail_line_call(ids: &[u16], output: &mut [u8], at: usize) -> Placed
+fn trail_line_call(ids: &[u16], output: &mut [u8], at: usize) -> Result<usize, TooShort>
     ensures { PlacedCall at (trail_line ids.now) output.old result output.new }
 {
     lines::trail_line(ids, output, at)
 }
 
 fn answer_lines_call(
-    ask: usize,
-    found: usize,
-    seen: usize,
-    walked: usize,
+    counts: Found,
     ids: &[u16],
     distances: &[u32],
     trail: &[u16],
     output: &mut [u8],
     at: usize,
-) -> Placed
-    ensures { PlacedCall at (three_lines ask found seen walked ids.now distances.now trail.now) output.old result output.new }
+) -> Result<usize, TooShort>
+    ensures { PlacedCall at (three_lines counts.ask counts.found counts.seen counts.walked ids.now distances.now trail.now) output.old result output.new }
 {
-    lines::answer_lines(ask, found, seen, walked, ids, distances, trail, output, at)
+    lines::answer_lines(counts, ids, distances, trail, output, at)
 }
 
 fn ask_lines_call(
@@ -136,7 +142,7 @@ fn ask_lines_call(
     k: u16,
     output: &mut [u8],
     at: usize,
-) -> Placed
+) -> Result<usize, TooShort>
     ensures { PlacedCall at (lines_of number (ask n d vectors.now table.now query.now start threshold width k)) output.old result output.new }
 {
     report::ask_lines(
@@ -150,7 +156,7 @@ fn page_call() -> [u8; 270000]
     report::page()
 }
 
-fn print_call(sheet: &[u8], output: &mut [u8], at: usize) -> Placed
+fn print_call(sheet: &[u8], output: &mut [u8], at: usize) -> Result<usize, TooShort>
     ensures { PlacedCall at (printed sheet.now) output.old result output.new }
 {
     report::print(sheet, output, at)

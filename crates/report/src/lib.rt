@@ -9,7 +9,7 @@ ghost use Rattle.rules.specs.Entries.{ask};
 ghost use Rattle.rules.specs.Program.{lines_of, printed};
 ghost use Rattle.lines.specs.Placing.{placed_answer, placed_after};
 
-use lines::Placed;
+use lines::{Found, TooShort};
 use search::Searched;
 
 // The lines of an ask, from what was read: the set and its table, the query and the ask's four numbers. The buffers of the search have 128 cells, as
@@ -27,7 +27,7 @@ pub fn ask_lines(
     k: u16,
     output: &mut [u8],
     at: usize,
-) -> Placed
+) -> Result<usize, TooShort>
     ensures answer { result ≡ placed_answer at (lines_of number (ask n d vectors.now table.now query.now start threshold width k)) output.old }
     ensures output { output.new ≡ placed_after at (lines_of number (ask n d vectors.now table.now query.now start threshold width k)) output.old }
 {
@@ -49,23 +49,18 @@ pub fn ask_lines(
         &mut trail,
     );
     match searched {
-        Searched::Refused(refusal) => lines::ask_refused_line(
-            found::wide(number),
-            found::wide8(refusal),
-            output,
-            at,
-        ),
-        Searched::Done(counts) => found::found_lines(
-            found::wide(number),
-            counts.found,
-            counts.seen,
-            counts.walked,
-            &ids,
-            &distances,
-            &trail,
-            output,
-            at,
-        ),
+        Searched::Refused(refusal) => {
+            lines::ask_refused_line(usize::from(number), usize::from(refusal), output, at)
+        }
+        Searched::Done(counts) => {
+            let counts = Found {
+                ask: usize::from(number),
+                found: counts.found,
+                seen: counts.seen,
+                walked: counts.walked,
+            };
+            found::found_lines(counts, &ids, &distances, &trail, output, at)
+        }
     }
 }
 
@@ -78,13 +73,11 @@ pub fn page() -> [u8; 270000]
 }
 
 // All that the program prints for a sheet. It is put together on a page first, so that an output that is too short keeps all it held.
-pub fn print(sheet: &[u8], output: &mut [u8], at: usize) -> Placed
+pub fn print(sheet: &[u8], output: &mut [u8], at: usize) -> Result<usize, TooShort>
     ensures answer { result ≡ placed_answer at (printed sheet.now) output.old }
     ensures output { output.new ≡ placed_after at (printed sheet.now) output.old }
 {
     let mut lines = page();
-    let Placed::End(end) = whole::fill(sheet, &mut lines) else {
-        return Placed::Short;
-    };
+    let end = whole::fill(sheet, &mut lines)?;
     lines::place(&lines[..end], output, at)
 }

@@ -5,8 +5,7 @@ ghost use Rattle.rules.specs.Program.{ask_of, lines_of, asks_lines, printed};
 ghost use Rattle.report.specs.Pages.{Paged, SheetGiven};
 
 use crate::ask_lines;
-use crate::found::wide8;
-use lines::Placed;
+use lines::TooShort;
 use sheet::{Asked, Headed};
 
 // The lines of one ask of a sheet. The query's cells are lent.
@@ -20,14 +19,14 @@ fn sheet_ask(
     query: &mut [i8],
     page: &mut [u8],
     at: usize,
-) -> Placed
+) -> Result<usize, TooShort>
     requires sheet_given { SheetGiven sheet.now n d vectors.now }
     requires number_bound { (number < ask_count sheet.now) × (length query.old ≡ d) }
     ensures { Paged at (lines_of number (ask_of sheet.now table.now number)) page.old page.new result }
 {
     let asked = sheet::ask(sheet, number, query);
     match asked {
-        Asked::Refused(_) => Placed::Short,
+        Asked::Refused(_) => Err(TooShort),
         Asked::Numbers {
             start,
             width,
@@ -50,7 +49,7 @@ fn asks_lines(
     query: &mut [i8],
     page: &mut [u8],
     at: usize,
-) -> Placed
+) -> Result<usize, TooShort>
     requires sheet_given { SheetGiven sheet.now n d vectors.now }
     requires asks_value { (asks ≡ ask_count sheet.now) × (asks ≤ 127) × (length query.old ≡ d) × (at ≤ length page.old) }
     ensures { Paged at (asks_lines sheet.now table.now asks) page.old page.new result }
@@ -58,14 +57,10 @@ fn asks_lines(
     let mut end = at;
     let mut i = 0;
     while i < asks {
-        let Placed::End(next) = sheet_ask(sheet, i as u16, n, d, vectors, table, query, page, end)
-        else {
-            return Placed::Short;
-        };
-        end = next;
+        end = sheet_ask(sheet, i as u16, n, d, vectors, table, query, page, end)?;
         i += 1;
     }
-    Placed::End(end)
+    Ok(end)
 }
 
 // All the lines of a sheet that is not refused. The cells of the vectors, of the table and of a query are lent.
@@ -78,26 +73,24 @@ fn set_lines(
     table: &mut [u16],
     query: &mut [i8],
     page: &mut [u8],
-) -> Placed
+) -> Result<usize, TooShort>
     requires sheet_given { SheetGiven sheet.now n d (vectors_of sheet.now) }
     requires asks_value { (asks ≡ ask_count sheet.now) × (length vectors.old ≡ n * d) × (length table.old ≡ n * n) × (length query.old ≡ d) }
     ensures { Paged 0 (printed sheet.now) page.old page.new result }
 {
     sheet::vectors(sheet, vectors);
     table::build(n, d, vectors, table);
-    let Placed::End(first) = lines::set_line(n, d, asks, page, 0) else {
-        return Placed::Short;
-    };
+    let first = lines::set_line(n, d, asks, page, 0)?;
     asks_lines(sheet, asks, n, d, vectors, table, query, page, first)
 }
 
 // All the lines of a sheet, refused or not.
-pub(crate) fn fill(sheet: &[u8], page: &mut [u8]) -> Placed
+pub(crate) fn fill(sheet: &[u8], page: &mut [u8]) -> Result<usize, TooShort>
     ensures { Paged 0 (printed sheet.now) page.old page.new result }
 {
     let headed = sheet::header(sheet);
     match headed {
-        Headed::Refused(refusal) => lines::refused_line(wide8(refusal), page, 0),
+        Headed::Refused(refusal) => lines::refused_line(usize::from(refusal), page, 0),
         Headed::Holds(head) => {
             let mut vectors = [0i8; 8192];
             let mut table = [0u16; 16384];

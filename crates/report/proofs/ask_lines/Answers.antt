@@ -14,7 +14,7 @@ found_lines-requires c =
 pub returns-in-Refused : goal.returns-in-Refused
 returns-in-Refused c =
     let told_is = ap told (sym c.in-Refused.is) ∙ c.search-searched.ensures.answer in
-    let same = refused_lines _ _ _ _ _ _ _ _ told_is refl refl refl c.wide.ensures c.wide8.ensures in
+    let same = refused_lines _ _ _ _ _ _ _ _ told_is refl refl refl c.from.ensures c.from-in-Refused.ensures in
     let both = placed_as _ _ _ _ same (c.ask_refused_line.ensures.answer, c.ask_refused_line.ensures.output) in record {
       answer = both.0;
       output = both.1;
@@ -24,7 +24,7 @@ pub returns-in-Done : goal.returns-in-Done
 returns-in-Done c =
     let e = c.search-searched.ensures in
     let x = answered _ _ _ _ _ _ _ _ _ _ _ (ap told (sym c.in-Done.is) ∙ e.answer) e.ids e.distances e.trail refl refl refl in
-    let both = placed_as _ _ _ _ (answered_lines _ _ _ c.wide-in-Done.ensures x) (c.found_lines.ensures.answer, c.found_lines.ensures.output) in record {
+    let both = placed_as _ _ _ _ (answered_lines _ _ _ c.from-in-Done.ensures x) (c.found_lines.ensures.answer, c.found_lines.ensures.output) in record {
       answer = both.0;
       output = both.1;
     }

@@ -45,4 +45,4 @@ set_lines-requires c =
 pub returns-in-Refused : goal.returns-in-Refused
 returns-in-Refused c =
     let told = ap head_told (sym c.in-Refused.is) ∙ c.header-headed.ensures in
-    paged _ _ _ _ (sheet-refused _ _ _ told c.wide8.ensures) (c.refused_line.ensures.answer, c.refused_line.ensures.output)
+    paged _ _ _ _ (sheet-refused _ _ _ told c.from.ensures) (c.refused_line.ensures.answer, c.refused_line.ensures.output)
