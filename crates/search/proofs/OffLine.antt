@@ -5,13 +5,13 @@ use mathlib.Core.Path.{◌≡◌, refl, sym, ap, ap₂, ◌∙◌}
 use mathlib.Core.Logic.{⊎_elim}
 use mathlib.Core.Bool.{Bool}
 use mathlib.Core.List.{List, [], ◌∷◌, map}
-use lib.ListN.{length, get_or, take, length-take}
-use lib.Seq.{get_or-take, take-take, take_all}
+use lib.ListN.{length, get_or, take, length-take, length-map}
+use lib.Seq.{get_or-take, take_all}
 use Rattle.rules.specs.Order.{keyed, count, firsts, Ordered}
 use Rattle.laws.proofs.Tests.{le_or_lt}
 use Rattle.laws.proofs.Keyed.{keyed_ordered, keyed_id, keyed_D}
 use Rattle.laws.proofs.Nearest.{firsts-nearest}
-use Rattle.laws.proofs.Line.{line_whole, line_length, whole_take, listed}
+use Rattle.laws.proofs.Line.{line_whole, whole_take, listed}
 use Rattle.search.specs.Answer.{id_of, distance_of}
 
 map-take : (f : ℕ → ℕ) (i : ℕ) (l : List ℕ) → take i (map f l) ≡ map f (take i l)
@@ -63,12 +63,11 @@ module _ (D : ℕ → ℕ) where
     pub found-is : (seen found : ℕ) → seen ≡ count n p → found ≡ min k seen → found ≡ length near
     found-is seen found s f = f ∙ ap (min k) s ∙ sym (firsts-nearest (keyed D) n ordered k p).many
 
-    module _ (line : List ℕ) (seen found : ℕ) (s : seen ≡ count n p) (f : found ≡ min k seen) (line_is : take seen line ≡ map (keyed D) all) where
+    module _ (line : List ℕ) (found : ℕ) (f : found ≡ min k (length line)) (line_is : line ≡ map (keyed D) all) where
       front : take found line ≡ map (keyed D) near
       front =
-          let len : length all ≡ seen = line_length (keyed D) n ordered p ∙ sym s in
-          sym (take-take found seen line (omega arith))
-          ∙ ap (take found) line_is
+          let len : length all ≡ length line = sym (ap length line_is ∙ length-map all (keyed D)) in
+          ap (take found) line_is
           ∙ map-take (keyed D) found all
           ∙ ap (map (keyed D)) (ap (λ (j : ℕ). take j all) (f ∙ ap (min k) (sym len)) ∙ take_min k all ∙ sym taken)
 

@@ -3,14 +3,16 @@ use Prim.Native.Nat.{ℕ, suc, ◌+◌, ◌-◌, ◌%◌, ◌≤◌, ◌<◌}
 use native.Mathlib.Nat.{le_refl, lt_irrefl, eq-or-lt_of_le}
 use native.Mathlib.Omega.{arith}
 use native.Mathlib.Numerals.{add-one}
-use mathlib.Core.Path.{◌≡◌, refl, sym, ap, ◌∙◌}
+use mathlib.Core.Path.{◌≡◌, refl, sym, ap, ◌∙◌, subst}
 use mathlib.Core.Logic.{⊎_elim}
 use mathlib.Core.Bool.{true, false}
-use mathlib.Core.List.{List, ◌∷◌, ◌++◌}
+use mathlib.Core.List.{List, [], ◌∷◌, ◌++◌}
 use lib.ListN.{length, get_or, take, drop, set, length-set, length-take, length-drop, length-append, get_or-append}
-use lib.Seq.{get_or-set_same, get_or-set_other, get_or-take, get_or-drop, get_or_at, get_or-append-add, ext_get_or}
+use lib.Seq.{get_or-set_same, get_or-set_other, get_or-take, get_or-drop, get_or_at, get_or-append-add, ext_get_or, take_all}
+use Rattle.std.proofs.Math.Seq.{take-append_seam}
 use Rattle.laws.proofs.Tests.{below, le_or_lt}
-use Rattle.search.specs.Line.{waits, Moved, Shifted, Put, Opened}
+use Rattle.search.specs.declared.see.Mark.{Mark}
+use Rattle.search.specs.Line.{waits, Slot, Moved, Shifted, Put, Opened}
 
 -- ---- the place that is free
 
@@ -116,24 +118,61 @@ put-there old new new' m x r room h q = record {
 
 -- ---- the first place whose id waits
 
-pub record Passing (line flags : List ℕ) (m a at : ℕ) : Type 0 where
+pub record Passing (line : List ℕ) (marks : List Mark) (m a at : ℕ) : Type 0 where
   pub from : a ≤ at
   pub within : at ≤ m
-  pub passed : (i : ℕ) → a ≤ i → i < at → waits flags (get_or line i 0 % 128) ≡ false
+  pub passed : (i : ℕ) → a ≤ i → i < at → waits marks (get_or line i 0 % 128) ≡ false
 
-pub pass_start : (line flags : List ℕ) (m a : ℕ) → a ≤ m → Passing line flags m a a
-pass_start line flags m a l = record { from = le_refl a; within = l; passed = λ i p q. absurd (lt_irrefl i (omega arith)) }
+pub pass_start : (line : List ℕ) (marks : List Mark) (m a : ℕ) → a ≤ m → Passing line marks m a a
+pass_start line marks m a l = record { from = le_refl a; within = l; passed = λ i p q. absurd (lt_irrefl i (omega arith)) }
 
-module _ {line flags : List ℕ} {m a at : ℕ} (h : Passing line flags m a at) where
-  pub pass_step : at < m → waits flags (get_or line at 0 % 128) ≡ false → Passing line flags m a (at + 1)
+module _ {line : List ℕ} {marks : List Mark} {m a at : ℕ} (h : Passing line marks m a at) where
+  pub pass_step : at < m → waits marks (get_or line at 0 % 128) ≡ false → Passing line marks m a (at + 1)
   pass_step l e = record {
     from = omega (arith, h.from);
     within = omega arith;
     passed = λ i p q. ⊎_elim (λ s. rw s e) (λ k. h.passed i p k) (below (rw add-one at q));
   }
 
-  pub pass_open : waits flags (get_or line at 0 % 128) ≡ true → Opened line flags m a at
+  pub pass_open : waits marks (get_or line at 0 % 128) ≡ true → Opened line marks m a at
   pass_open e = record { from = h.from; within = h.within; passed = h.passed; open_there = λ l. e }
 
-  pub pass_none : m ≤ at → Opened line flags m a at
+  pub pass_none : m ≤ at → Opened line marks m a at
   pass_none l = record { from = h.from; within = h.within; passed = h.passed; open_there = λ k. absurd (lt_irrefl at (omega arith)) }
+
+-- ---- a key that was put behind a whole line, in its place
+
+pub record Entered (line : List ℕ) (x r : ℕ) (line' : List ℕ) : Type 0 where
+  pub slot : Slot line (length line) x r
+  pub keys : line' ≡ take r line ++ (x ∷ drop r line)
+
+pub entered : (line line' : List ℕ) (x r : ℕ) → Put (line ++ (x ∷ [])) (length (line ++ (x ∷ [])) - 1) x r line' → Entered line x r line'
+entered line line' x r p = record {
+  slot = record {
+    within = omega (arith, p.slot.within, size);
+    larger = λ i a b. rw (← front i b) (p.slot.larger i a (omega (arith, size)));
+    not-larger = λ i e. rw (← front i (omega (arith, size, p.slot.within))) (p.slot.not-larger i e);
+  };
+  keys = sym (take_all (length (line ++ (x ∷ [])) - 1 + 1) line' (omega (arith, p.size, size)))
+      ∙ p.keys
+      ∙ ap (λ (l : List ℕ). take r l ++ (x ∷ drop r l)) before;
+}
+  where
+    size : length (line ++ (x ∷ [])) ≡ length line + 1
+    size = length-append line (x ∷ [])
+
+    front : (i : ℕ) → i < length line → get_or (line ++ (x ∷ [])) i 0 ≡ get_or line i 0
+    front i l = get_or-append line (x ∷ []) 0 i l
+
+    before : take (length (line ++ (x ∷ [])) - 1) (line ++ (x ∷ [])) ≡ line
+    before = let e : length (line ++ (x ∷ [])) - 1 ≡ length line = omega (arith, size) in rw e (take-append_seam line (x ∷ []))
+
+-- as the line is when it was put there by way of the slice that it lends
+pub written_back : {line pushed lent line' : List ℕ} {key x r : ℕ} → pushed ≡ line ++ (key ∷ []) → lent ≡ pushed → key ≡ x →
+    Put lent (length lent - 1) key r line' → Entered line x r (take (length pushed) (line' ++ drop (length line') pushed))
+written_back {line} {pushed} {lent} {line'} {key} {x} {r} p l k put =
+    let new = subst (λ (t : List ℕ). Put t (length t - 1) key r line') (l ∙ p) put in
+    let size : length line' ≡ length pushed = put.size ∙ ap length l in
+    let whole : take (length pushed) (line' ++ drop (length line') pushed) ≡ line' =
+    rw (← size) (take-append_seam line' (drop (length line') pushed)) in
+    rw (whole, ← k) (entered line line' key r new)
