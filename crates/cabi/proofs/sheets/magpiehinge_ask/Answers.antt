@@ -4,11 +4,11 @@ use Rattle.sheet.specs.Answers.{ask_told}
 use Rattle.cabi.proofs.Cells.{number, cell}
 use Rattle.cabi.proofs.sheets.magpiehinge_ask.Goals as goal
 
-pub returns-in-Refused : goal.returns-in-Refused
-returns-in-Refused c =
-    let e = c.ask-answer.ensures in
+pub returns-in-Err : goal.returns-in-Err
+returns-in-Err c =
+    let e = c.ask.ensures in
     let s = c.args in
-    let o = ap ask_told (sym c.in-Refused.is) ∙ e.0 in
+    let o = ap ask_told (sym c.in-Err.is) ∙ e.0 in
     let start = cell (λ x. x.start) s.start.now o in
     let width = cell (λ x. x.width) s.width.now o in
     let most = cell (λ x. x.k) s.k.now o in
@@ -22,11 +22,11 @@ returns-in-Refused c =
       threshold = threshold;
     }
 
-pub returns-in-Numbers : goal.returns-in-Numbers
-returns-in-Numbers c =
-    let e = c.ask-answer.ensures in
+pub returns-in-Ok : goal.returns-in-Ok
+returns-in-Ok c =
+    let e = c.ask.ensures in
     let s = c.args in
-    let o = ap ask_told (sym c.in-Numbers.is) ∙ e.0 in
+    let o = ap ask_told (sym c.in-Ok.is) ∙ e.0 in
     let start = cell (λ x. x.start) s.start.now o in
     let width = cell (λ x. x.width) s.width.now o in
     let most = cell (λ x. x.k) s.k.now o in

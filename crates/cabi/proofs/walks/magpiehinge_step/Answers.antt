@@ -6,11 +6,11 @@ use Rattle.cabi.specs.Plain.{moved_bit}
 use Rattle.cabi.proofs.Cells.{number, cell}
 use Rattle.cabi.proofs.walks.magpiehinge_step.Goals as goal
 
-pub returns-in-Refused : goal.returns-in-Refused
-returns-in-Refused c =
+pub returns-in-Err : goal.returns-in-Err
+returns-in-Err c =
     let e = c.step_at-step.ensures in
     let s = c.args in
-    let o = ap told (sym c.in-Refused.is) ∙ e.0 in
+    let o = ap told (sym c.in-Err.is) ∙ e.0 in
     record {
       refusal = number o;
       current = ap (λ (w : Walk). w.current) e.1;
