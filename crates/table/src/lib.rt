@@ -1,14 +1,18 @@
 // The label table of a set.
 #![tactic(auto)]
 
-ghost use Rattle.std.specs.Prelude.{◌≡◌, ◌-◌, ◌*◌, ◌<◌, ◌≤◌, min, cond, length};
-ghost use Rattle.rules.specs.Points.{apart};
-ghost use Rattle.rules.specs.Labels.{reaches, label_of, table_of};
+ghost use Rattle.std.specs.Prelude.{◌≡◌, ◌*◌, ◌<◌, ◌≤◌, min, cond, length, IfOk, OnOk};
+ghost use Rattle.rules.specs.Labels.{reaches, label_of};
 ghost use Rattle.rules.specs.Refusals.{build_refusal};
 ghost use Rattle.rules.specs.Entries.{table_after};
+ghost use Rattle.space.specs.Told.{number_in};
 
 mod kept;
 mod rows;
+
+use kept::Distances;
+use rows::write_rows;
+use space::{Points, Refusal, Set};
 
 // t where it does not exceed the root of a less the root of b, and low where it does. Both tests are made each time, since a branch between them
 // takes the build from 1.08 to 1.19 ms at 64 coordinates.
@@ -39,38 +43,25 @@ pub fn label(duv: u32, dwv: u32) -> u16
     low as u16
 }
 
-// Refusals 1 to 4; 0 for none.
-fn build_refusal(n: usize, d: usize, vectors: usize, table: usize) -> u8
-    ensures { result ≡ build_refusal n d vectors table }
+// Refusals 1 to 4; where there is none, the set as one that is not refused.
+fn check<'a>(set: &Set<'a>, table: usize) -> Result<Points<'a>, Refusal>
+    ensures refusal { number_in result ≡ build_refusal set.now.n set.now.d (length set.now.vectors.now) table }
+    ensures same { IfOk result (λ points. points.set ≡ set.now) }
+    ensures table { OnOk result (table ≡ set.now.n * set.now.n) }
 {
-    let refusal = space::set_refusal(n, d, vectors);
-    if refusal != 0 {
-        return refusal;
+    let points = set.check()?;
+    if table != set.n * set.n {
+        return Err(Refusal::Table);
     }
-    if table != n * n {
-        return 4;
-    }
-    0
+    Ok(points)
 }
 
-// The table of a set that is not refused.
-fn write(n: usize, d: usize, vectors: &[i8], table: &mut [u16])
-    requires { build_refusal n d (length vectors.now) (length table.old) ≡ 0 }
-    ensures { table.new ≡ table_of (apart d vectors.now) n }
+// The label table of a set, in the lent cells. Where it refuses, they stay as they were.
+pub fn build(set: &Set<'_>, table: &mut [u16]) -> Result<(), Refusal>
+    ensures value { number_in result ≡ build_refusal set.now.n set.now.d (length set.now.vectors.now) (length table.old) }
+    ensures written { table.new ≡ table_after set.now.n set.now.d set.now.vectors.now table.old }
 {
-    let mut between = [0u32; 16384];
-    kept::fill(n, d, vectors, &mut between);
-    rows::rows(n, &between, table);
-}
-
-// The label table of a set, in the lent cells; the refusal number, or 0 for none.
-pub fn build(n: usize, d: usize, vectors: &[i8], table: &mut [u16]) -> u8
-    ensures value { result ≡ build_refusal n d (length vectors.now) (length table.old) }
-    ensures written { table.new ≡ table_after n d vectors.now table.old }
-{
-    let refusal = build_refusal(n, d, vectors.len(), table.len());
-    if refusal == 0 {
-        write(n, d, vectors, table);
-    }
-    refusal
+    let points = check(set, table.len())?;
+    write_rows(&Distances::of(&points), table);
+    Ok(())
 }
