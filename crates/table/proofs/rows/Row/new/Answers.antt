@@ -21,7 +21,3 @@ invariant_of-result c =
       u_in = c.requires;
       sofar = ∣ sofar_none kept c.requires (queued kept.few c.requires refl (omega arith) c.loop-v.invariant) refl ∣₁;
     }
-
-pub returns-clause-queued : goal.returns-clause-queued
-returns-clause-queued c =
-    queued c.args.distances.now.both_ways.few c.requires refl (omega arith) c.loop-v.invariant
