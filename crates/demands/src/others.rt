@@ -2,12 +2,15 @@
 // place; `sheet::field_from` calls all three.)
 ghost use Rattle.std.specs.Prelude.{length};
 ghost use Rattle.rules.specs.Lines.{set_line, found_line, ask_refused_line, near_line, trail_line, refused_line};
-ghost use Rattle.rules.specs.Entries.{ask};
 ghost use Rattle.rules.specs.Program.{lines_of, printed};
+ghost use Rattle.space.specs.Told.{number_in};
+ghost use Rattle.search.specs.Answer.{asked};
 ghost use Rattle.lines.specs.Placing.{three_lines};
-ghost use Rattle.demands.specs.OtherCalls.{OutsideCall, SetRefusalCall, StartRefusalCall, SmallerCall, MeasureCall, LabelCall, FieldCall, PlacedCall, PageCall};
+ghost use Rattle.demands.specs.OtherCalls.{OutsideCall, SetRefusalCall, StartRefusalCall, SmallerCall, MeasureCall, CheckCall, CoordinatesCall, ApartCall, QuestionCheckCall, AwayCall, KeyCall, LabelCall, FieldCall, PlacedCall, PageCall};
 
 use lines::{Found, TooShort};
+use search::Ask;
+use space::{Asked, Points, Question, Refusal, Set};
 
 fn is_outside_call(low: usize, high: usize, x: usize) -> bool
     ensures { OutsideCall low high x result }
@@ -15,8 +18,8 @@ fn is_outside_call(low: usize, high: usize, x: usize) -> bool
     space::is_outside(low, high, x)
 }
 
-fn set_refusal_call(n: usize, d: usize, len: usize) -> u8
-    ensures { SetRefusalCall n d len result }
+fn set_refusal_call(n: usize, d: usize, len: usize) -> Result<(), Refusal>
+    ensures { SetRefusalCall n d len (number_in result) }
 {
     space::set_refusal(n, d, len)
 }
@@ -28,8 +31,8 @@ fn start_refusal_call(
     table: usize,
     query: usize,
     start: usize,
-) -> u8
-    ensures { StartRefusalCall n d vectors table query start result }
+) -> Result<(), Refusal>
+    ensures { StartRefusalCall n d vectors table query start (number_in result) }
 {
     space::start_refusal(n, d, vectors, table, query, start)
 }
@@ -40,10 +43,46 @@ fn smaller_call(x: usize, y: usize) -> usize
     space::smaller(x, y)
 }
 
-fn measure_call(n: usize, d: usize, vectors: &[i8], id: usize, query: &[i8]) -> u32
-    ensures { MeasureCall n d vectors.now id query.now result }
+fn measure_call(set: &Set<'_>, id: usize, query: &[i8]) -> u32
+    ensures { MeasureCall set.now.n set.now.d set.now.vectors.now id query.now result }
 {
-    space::measure(n, d, vectors, id, query)
+    set.measure(id, query)
+}
+
+fn check_call<'a>(set: &Set<'a>) -> Result<Points<'a>, Refusal>
+    ensures { CheckCall set.now result }
+{
+    set.check()
+}
+
+fn coordinates_call<'a>(points: &Points<'a>, id: usize) -> &'a [i8]
+    ensures { CoordinatesCall points.now.set.d points.now.set.vectors.now id result.now }
+{
+    points.coordinates(id)
+}
+
+fn apart_call(points: &Points<'_>, u: usize, v: usize) -> u32
+    ensures { ApartCall points.now.set.d points.now.set.vectors.now u v result }
+{
+    points.apart(u, v)
+}
+
+fn question_check_call<'a>(question: &Question<'a>, start: usize) -> Result<Asked<'a>, Refusal>
+    ensures { QuestionCheckCall question.now start result }
+{
+    question.check(start)
+}
+
+fn away_call(asked: &Asked<'_>, id: usize) -> u32
+    ensures { AwayCall asked.now.points.set.d asked.now.points.set.vectors.now asked.now.query.now id result }
+{
+    asked.away(id)
+}
+
+fn key_call(asked: &Asked<'_>, id: u8) -> u32
+    ensures { KeyCall asked.now.points.set.d asked.now.points.set.vectors.now asked.now.query.now id result }
+{
+    asked.key(id)
 }
 
 fn label_call(duv: u32, dwv: u32) -> u16
@@ -131,23 +170,13 @@ fn answer_lines_call(
 
 fn ask_lines_call(
     number: u16,
-    n: usize,
-    d: usize,
-    vectors: &[i8],
-    table: &[u16],
-    query: &[i8],
-    start: u16,
-    threshold: u16,
-    width: u16,
-    k: u16,
+    ask: &Ask<'_>,
     output: &mut [u8],
     at: usize,
 ) -> Result<usize, TooShort>
-    ensures { PlacedCall at (lines_of number (ask n d vectors.now table.now query.now start threshold width k)) output.old result output.new }
+    ensures { PlacedCall at (lines_of number (asked ask.now)) output.old result output.new }
 {
-    report::ask_lines(
-        number, n, d, vectors, table, query, start, threshold, width, k, output, at,
-    )
+    report::ask_lines(number, ask, output, at)
 }
 
 fn page_call() -> [u8; 270000]
