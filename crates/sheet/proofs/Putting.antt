@@ -105,6 +105,9 @@ put-part-some out at zero v some h room = absurd (omega arith)
 put-part-some out at (suc k) v some h room = put-part out at k v h room
 
 -- the byte as the code computes it
+abbrev pub stored : ℕ → ℕ → ℕ → ℕ → ℕ
+stored x m k v = (x / 2 ^ (8 - m) * 2 ^ k % 4294967296 + v % (1 * 2 ^ k % 4294967296)) * 2 ^ (8 - m - k) % 4294967296
+
 module _ (x m k v : ℕ) (hx : x < 256) (some : 1 ≤ k) (few : m + k ≤ 8) where
   abbrev kept : ℕ
   kept = x / 2 ^ (8 - m)
@@ -154,7 +157,7 @@ module _ (x m k v : ℕ) (hx : x < 256) (some : 1 ≤ k) (few : m + k ≤ 8) whe
 
 -- ---- a field, part by part
 
-bits-split : (t k v : ℕ) → bits (t + k) v ≡ bits t (v / 2 ^ k) ++ bits k v
+pub bits-split : (t k v : ℕ) → bits (t + k) v ≡ bits t (v / 2 ^ k) ++ bits k v
 unfolding bits
 bits-split zero k v = let e : 0 + k ≡ k = omega arith in rw e
 bits-split (suc t) k v =

@@ -21,7 +21,7 @@ use Rattle.sheet.specs.Put.{put_bits}
 use Rattle.sheet.proofs.Putting.{put_bits-none, put_bits-append}
 
 -- the last c bits of the two's complement in eight bits are those of the two's complement in c bits
-bits_eight : (c : ℕ) (z : ℤ) → c ≤ 8 → fits c z ≡ true → bits c (twos 8 z) ≡ bits c (twos c z)
+pub bits_eight : (c : ℕ) (z : ℤ) → c ≤ 8 → fits c z ≡ true → bits c (twos 8 z) ≡ bits c (twos c z)
 unfolding twos fits
 bits_eight c (pos n) h f = refl
 bits_eight c (negsuc n) h f =

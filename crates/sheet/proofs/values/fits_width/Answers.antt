@@ -3,5 +3,4 @@ use Rattle.sheet.proofs.Signs.{fits_by}
 use Rattle.sheet.proofs.values.fits_width.Goals as goal
 
 pub returns : goal.returns
-returns c =
-    fits_by c.args.c c.args.z c.magnitude.result c.ranges.z c.requires.1 c.magnitude.ensures.0
+returns c = fits_by c.args.c c.args.z c.requires.some c.requires.few c.ranges.z c.from.ensures c.contains.ensures.value

@@ -1,0 +1,28 @@
+-- `sheet::place::Place::fill` meets its contract. Assumes nothing.
+use Rattle.std.proofs.Common.{refl, ap, ◌∙◌, rules, min}
+use Rattle.rules.specs.Sheet.{field_at}
+use Rattle.sheet.proofs.Filled.{filled_none, filled_more, filled_all, read_small}
+use Rattle.sheet.proofs.place.Place.fill.Goals as goal
+
+pub loop-cell-init : goal.loop-cell-init
+loop-cell-init c = record { sheet = refl; filled = filled_none _ _ c.args.c _ }
+
+pub signed_value-requires-clause-small : goal.signed_value-requires-clause-small
+signed_value-requires-clause-small c = read_small _ _ c.args.c c.requires.few c.take.ensures.value
+
+pub loop-cell-preserved : goal.loop-cell-preserved
+loop-cell-preserved c =
+    let l = c.loop-cell in
+    let t = c.take.ensures in
+    record {
+      sheet = t.same ∙ l.invariant.sheet;
+      filled =
+          filled_more _ _ c.args.c _ l.cell-index l.self.next _ l.invariant.filled l.auto.buffer c.loop-cell-test.true c.requires.few c.requires.small
+          (t.value ∙ ap (λ s. field_at s.now l.self.next (min c.args.c 16)) l.invariant.sheet) t.moved c.signed_value.ensures
+          (record { sfits = search rules });
+    }
+
+pub returns : goal.returns
+returns c =
+    let l = c.loop-cell in
+    filled_all _ _ c.args.c _ l.cell-index l.self.next _ l.invariant.filled l.auto.buffer c.loop-cell-test.false l.auto.cell-index-end
