@@ -1,11 +1,20 @@
 // The greedy walk.
 ghost use Rattle.std.specs.Prelude.{◌≡◌};
 ghost use Rattle.rules.specs.Entries.{step_answer, record_after, walk_answer};
-ghost use Rattle.walk.specs.Answers.{at};
+ghost use Rattle.walk.specs.Answers.{at, step_is};
 ghost use Rattle.cabi.specs.Plain.{number_of, cell_after, moved_bit};
 
 use space::{Question, Set};
 use walk::{Step, Walk};
+
+fn moved_bit(step: Step) -> u8
+    ensures { result ≡ moved_bit (step_is step) }
+{
+    match step {
+        Step::Moved => 1,
+        Step::AtEnd => 0,
+    }
+}
 
 // One step of a walk record, current and moves. `moved` becomes 1 for "moved" and 0 for "at end".
 pub fn magpiehinge_step(
@@ -42,12 +51,8 @@ pub fn magpiehinge_step(
     *current = walk.current;
     *moves = walk.moves;
     match answer {
-        Ok(Step::Moved) => {
-            *moved = 1;
-            0
-        }
-        Ok(Step::AtEnd) => {
-            *moved = 0;
+        Ok(step) => {
+            *moved = moved_bit(step);
             0
         }
         Err(refusal) => u8::from(refusal),

@@ -1,8 +1,8 @@
 -- A row followed by the list of the ids that may not be seen yet, from its end down. Assumes nothing.
-use Prim.Native.Nat.{ℕ, ◌+◌, ◌-◌, ◌≤◌, ◌<◌}
+use Prim.Native.Nat.{ℕ, ◌-◌, ◌≤◌, ◌<◌}
 use native.Mathlib.Nat.{lt_irrefl}
 use native.Mathlib.Omega.{arith}
-use mathlib.Core.Path.{◌≡◌, refl, sym, ap, ◌∙◌}
+use mathlib.Core.Path.{◌≡◌, refl, sym, ◌∙◌}
 use mathlib.Core.Logic.{◌⊎◌, inl, inr, ⊎_elim, ∥∥₁_elim}
 use mathlib.Core.Bool.{Bool, true, false}
 use mathlib.Core.List.{List}
@@ -12,8 +12,8 @@ use lib.Seq.{get_or-set_same, get_or-set_other}
 use borrow.Author.Tests.{eqb-true, eqb-false, le-leb, lt-leb}
 use Rattle.laws.proofs.Tests.{both, le_or_lt, and_false}
 use Rattle.search.specs.declared.see.Mark.{Mark}
-use Rattle.search.specs.declared.see.Mark.TheVariants.{Unseen, Waiting, Walked}
-use Rattle.search.specs.Line.{sees, is_seen}
+use Rattle.search.specs.declared.see.Mark.TheVariants.{Unseen, Waiting}
+use Rattle.search.specs.Line.{sees}
 use Rattle.search.specs.Rest.{Rest, Reached}
 use Rattle.search.specs.Seen.{marked_at, Marked}
 use Rattle.search.proofs.Marks.{unseen_is}

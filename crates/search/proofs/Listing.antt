@@ -3,7 +3,7 @@ use Prim.Native.Nat.{ℕ, ◌+◌, ◌-◌, ◌≤◌, ◌<◌}
 use native.Mathlib.Nat.{lt_irrefl}
 use native.Mathlib.Omega.{arith}
 use mathlib.Core.Path.{◌≡◌, refl, sym, ap, ◌∙◌}
-use mathlib.Core.Logic.{⊎_elim, ∥∥₁_elim, ∥∥₁_map}
+use mathlib.Core.Logic.{⊎_elim, ∥∥₁_map}
 use mathlib.Core.Bool.{Bool, true, false}
 use mathlib.Core.List.{List}
 use lib.Dec.{eqb}
@@ -12,10 +12,10 @@ use lib.Seq.{get_or-set_same, get_or-set_other}
 use borrow.Author.Tests.{eqb-true, eqb-false}
 use Rattle.laws.proofs.Tests.{both, never}
 use Rattle.search.specs.declared.see.Mark.{Mark}
-use Rattle.search.specs.declared.see.Mark.TheVariants.{Unseen, Waiting, Walked}
+use Rattle.search.specs.declared.see.Mark.TheVariants.{Unseen, Waiting}
 use Rattle.search.specs.Line.{sees, is_seen}
-use Rattle.search.specs.Rest.{Numbered, Rest, reached, Reached}
-use Rattle.search.proofs.Marks.{unseen_is, not-unseen, sees-same}
+use Rattle.search.specs.Rest.{Numbered, Rest, reached}
+use Rattle.search.proofs.Marks.{not-unseen, sees-same}
 
 -- ---- at first
 

@@ -1,5 +1,5 @@
 -- A point becomes seen: its mark and its key in the line. Assumes nothing.
-use Prim.Native.Nat.{ℕ, ◌+◌, ◌-◌, ◌%◌, ◌≤◌, ◌<◌, min}
+use Prim.Native.Nat.{ℕ, ◌-◌, ◌%◌, ◌≤◌, ◌<◌, min}
 use native.Mathlib.Nat.{eq-or-lt_of_le}
 use native.Mathlib.Omega.{arith}
 use mathlib.Core.Path.{◌≡◌, sym, ap, ◌∙◌}
@@ -19,8 +19,8 @@ use Rattle.laws.proofs.Line.{Whole, get_d_map, listed, whole_rising, line_whole,
 use Rattle.laws.proofs.Refusals.{set_ok}
 use Rattle.space.specs.declared.question.Asked.{Asked}
 use Rattle.search.specs.declared.see.Mark.{Mark}
-use Rattle.search.specs.declared.see.Mark.TheVariants.{Unseen, Waiting, Walked}
-use Rattle.search.specs.Line.{waits, sees, is_seen, Slot}
+use Rattle.search.specs.declared.see.Mark.TheVariants.{Unseen, Waiting}
+use Rattle.search.specs.Line.{sees, is_seen, Slot}
 use Rattle.search.specs.Seen.{Lined}
 use Rattle.search.proofs.Marks.{sees-same, sees-other, waits-other}
 use Rattle.search.proofs.Places.{Entered}

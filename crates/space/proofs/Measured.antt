@@ -15,8 +15,14 @@ use Rattle.std.proofs.Math.ListN.{drop_of_length-le}
 use Rattle.rules.specs.Points.{dist, coordinates, apart, away}
 use Rattle.rules.specs.Refusals.{set_refusal, point_refusal}
 use Rattle.rules.specs.Entries.{point_of}
-use Rattle.laws.proofs.Refusals.{set_ok, else_none, after_new, after_old}
+use Rattle.laws.proofs.Refusals.{SetOk, set_ok, skipped, else_none, else_both, after_new, after_old}
 use Rattle.laws.proofs.RefusalOrder.{passes, point_order}
+
+-- what is known of a point that is not refused
+pub point_ok : (n d len id : ℕ) → point_refusal n d len id ≡ 0 → SetOk n d len × (id < n)
+point_ok n d len id e =
+    let both = else_both (set_refusal n d len) _ (sym (point_order n d len id) ∙ e) in
+    (set_ok n d len both.0, leb-false n id (skipped _ 5 0 both.1).0)
 
 module _ (n d : ℕ) (vectors : List ℤ) (given : set_refusal n d (length vectors) ≡ 0) where
   -- a point of the set is handed back

@@ -13,7 +13,7 @@ returns-in-Err c =
     let seen = cell (λ x. x.seen) s.seen.now o in
     let walked = cell (λ x. x.walked) s.walked.now o in
     record {
-      refusal = number o;
+      refusal = c.from.ensures ∙ number o;
       ids = e.ids;
       distances = e.distances;
       trail = e.trail;

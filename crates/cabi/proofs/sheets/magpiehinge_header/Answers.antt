@@ -14,7 +14,7 @@ returns-in-Err c =
     let bits = cell (λ x. x.c) s.c.now o in
     let asks = cell (λ x. x.asks) s.asks.now o in
     record {
-      refusal = number o;
+      refusal = c.from.ensures ∙ number o;
       n = points;
       d = coords;
       c = bits;

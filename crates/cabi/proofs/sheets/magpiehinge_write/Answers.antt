@@ -8,10 +8,10 @@ pub returns-in-Err : goal.returns-in-Err
 returns-in-Err c =
     let e = c.write.ensures in
     let s = c.args in
-    let o = ap write_told (sym c.in-Err.is) ∙ e.0 in
+    let o = ap write_told (sym c.in-Err.is) ∙ e.value in
     record {
-      refusal = number o;
-      output = e.1;
+      refusal = c.from.ensures ∙ number o;
+      output = e.output;
       written = cell (λ x. x) s.written.now o;
     }
 
@@ -19,9 +19,9 @@ pub returns-in-Ok : goal.returns-in-Ok
 returns-in-Ok c =
     let e = c.write.ensures in
     let s = c.args in
-    let o = ap write_told (sym c.in-Ok.is) ∙ e.0 in
+    let o = ap write_told (sym c.in-Ok.is) ∙ e.value in
     record {
       refusal = number o;
-      output = e.1;
+      output = e.output;
       written = cell (λ x. x) s.written.now o;
     }

@@ -13,7 +13,7 @@ returns-in-Err c =
     let distance = cell (λ x. x.distance) s.distance.now o in
     let moves = cell (λ x. x.moves) s.moves.now o in
     record {
-      refusal = number o;
+      refusal = c.from.ensures ∙ number o;
       last = last;
       distance = distance;
       moves = moves;
