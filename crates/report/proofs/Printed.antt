@@ -14,6 +14,9 @@ use Rattle.rules.specs.Program.{asks_lines, printed}
 use Rattle.laws.proofs.Fields.{points-small, coords-small}
 use Rattle.laws.proofs.Refusals.{outcome-none, outcome_value}
 use Rattle.std.specs.Prelude.{Result, Ok, Err}
+use Rattle.space.specs.declared.refusal.Refusal.{Refusal}
+use Rattle.sheet.specs.declared.Head.{Head}
+use Rattle.sheet.specs.Answers.{head_told}
 use Rattle.lines.specs.declared.TooShort.{TooShort}
 use Rattle.lines.specs.Placing.{too_short}
 use Rattle.report.specs.Pages.{Paged, SheetGiven}
@@ -59,6 +62,10 @@ module _ (ys : List ℕ) where
         few-points = rw en (points-small ys).1;
         few-coordinates = rw ed (coords-small ys).1;
       }
+
+-- the same by what the header's reader answers
+pub read_head : {ys : List ℕ} {r : Result Head Refusal} {h : Head} → r ≡ Ok h → head_told r ≡ header_answer ys → Headed ys h.n h.d h.asks
+read_head {ys} {h = h} e told = sheet_headed ys h.n h.d h.c h.asks (ap head_told (sym e) ∙ told)
 
 -- the `set` line, and then the asks' lines on the set's own table
 pub whole_set :

@@ -84,7 +84,7 @@ few a e =
     let near = firsts-nearest (order_of a) a.n (keyed_ordered (farness a) a.n ok.starts.asked.few-points) a.k (searched a).seen in
     let sound = run_sound a.n (order_of a) (edges_of a) a.width a.n (eqb a.start) in
     record {
-      near_few = omega (arith, near.many, ok.ids_room);
+      near_few = omega (arith, near.many, ok.rooms.ids_room);
       near_small = λ y o. omega (arith, (near.each y o).0, ok.starts.asked.few-points);
       seen_few = omega (arith, count_le a.n (searched a).seen, ok.starts.asked.few-points);
       trail-few = omega (arith, sound.1, count_le a.n (on (searched a).trail), ok.starts.asked.few-points);

@@ -41,6 +41,14 @@ module _ (ys : List ℕ) where
   unfolding vectors_of
   vectors-long = length-values (width ys) (points ys * coords ys) (drop 24 (unpacked ys))
 
+-- the limits of a sheet's set
+module _ {ys : List ℕ} {n d : ℕ} {vectors : List ℤ} (h : SheetGiven ys n d vectors) where
+  pub few-points : n ≤ 128
+  few-points = rw h.n-is (points-small ys).1
+
+  pub few-coordinates : d ≤ 64
+  few-coordinates = rw h.d-is (coords-small ys).1
+
 -- ---- one ask
 
 ask_room : (ys : List ℕ) (i room : ℕ) → sheet_refusal ys ≡ 0 → i < ask_count ys → room ≡ coords ys → one_ask_refusal ys i room ≡ 0
@@ -132,13 +140,13 @@ module _ {ys : List ℕ} {n d : ℕ} {vectors : List ℤ} (h : SheetGiven ys n d
       n1 = rw h.n-is (points-small ys).0
 
       n2 : n ≤ 128
-      n2 = rw h.n-is (points-small ys).1
+      n2 = few-points h
 
       d1 : 1 ≤ d
       d1 = rw h.d-is (coords-small ys).0
 
       d2 : d ≤ 64
-      d2 = rw h.d-is (coords-small ys).1
+      d2 = few-coordinates h
 
       v : length vectors ≡ n * d
       v = rw (h.n-is, h.d-is, h.vectors_are) (vectors-long ys)

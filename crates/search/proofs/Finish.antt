@@ -16,7 +16,8 @@ use Rattle.rules.specs.Refusals.{outside, start_refusal, search_refusal, refuse7
 use Rattle.rules.specs.Entries.{Counts, Ask, farness, order_of, edges_of, searched, near_ids, near_distances, counts_of, asked_refusal, refusal_of}
 use Rattle.rules.specs.Entries.{search_answer, ids_after, distances_after, trail_after}
 use Rattle.laws.proofs.Tests.{or_off, or_off_r}
-use Rattle.laws.proofs.Refusals.{skipped, outcome-gives, outcome-refused, after_new, after_old}
+use Rattle.laws.specs.Lent.{StartOk}
+use Rattle.laws.proofs.Refusals.{else_both, skipped, outcome-gives, outcome-refused, after_new, after_old}
 use Rattle.laws.proofs.RefusalOrder.{stops, passes, search_order, start_ok}
 use Rattle.space.specs.declared.question.Asked.{Asked}
 use Rattle.space.specs.declared.question.Question.{Question}
@@ -46,6 +47,20 @@ room n k threshold width ids distances trail e =
       distances_room = ltb-false distances k (or_off (ltb distances k) (ltb trail n) rest);
       trail_room = ltb-false trail n (or_off_r (ltb distances k) (ltb trail n) rest);
     }
+
+-- ---- an ask that is not refused
+
+pub record SearchOk (n d vectors table query start threshold width k ids distances trail : ℕ) : Type 0 where
+  pub starts : StartOk n d vectors table query start
+  pub rooms : Room n k ids distances trail
+
+pub search_ok : (n d vectors table query start threshold width k ids distances trail : ℕ) →
+    search_refusal n d vectors table query start threshold width k ids distances trail ≡ 0 →
+    SearchOk n d vectors table query start threshold width k ids distances trail
+search_ok n d vectors table query start threshold width k ids distances trail e =
+    let order = search_order n d vectors table query start threshold width k ids distances trail in
+    let both = else_both (start_refusal n d vectors table query start) _ (sym order ∙ e) in
+    record { starts = start_ok n d vectors table query start both.0; rooms = room n k threshold width ids distances trail both.1 }
 
 -- ---- an exploration of a question that is not refused, in the terms of the question as it is lent
 
