@@ -7,7 +7,7 @@ use mathlib.Core.Logic.{◌≢◌}
 use mathlib.Core.List.{List, []}
 use lib.IntN.{ℤ}
 use lib.ListN.{length}
-use Rattle.rules.specs.Outcome.{Outcome, refused, outcome}
+use Rattle.rules.specs.Outcome.{refused, outcome}
 use Rattle.rules.specs.Walk.{Walk}
 use Rattle.rules.specs.Sheet.{Contents}
 use Rattle.rules.specs.Refusals.{point_refusal, build_refusal, walk_refusal, sheet_refusal, vectors_refusal, one_ask_refusal}
@@ -16,8 +16,8 @@ use Rattle.laws.proofs.Refusals.{after_old, outcome-refused, outcome-number}
 use Rattle.space.specs.declared.refusal.Refusal.{Refusal}
 use Rattle.space.specs.Told.{number, told}
 use Rattle.search.specs.declared.Counts.{Counts}
-use Rattle.walk.specs.declared.Step.{Step}
-use Rattle.walk.specs.declared.End.{End}
+use Rattle.walk.specs.declared.answers.Step.{Step}
+use Rattle.walk.specs.declared.answers.End.{End}
 use Rattle.sheet.specs.declared.Head.{Head}
 use Rattle.sheet.specs.declared.Numbers.{Numbers}
 use Rattle.demands.specs.Calls.{PointCall, PointRefusalCall, BuildCall, SearchCall, StepCall, WalkCall, WriteCall, HeaderCall, VectorsCall, AskCall}

@@ -1,7 +1,7 @@
 -- Demand 2, of what the entries return and write. Assumes nothing.
 use Prim.Native.Nat.{ℕ, suc, ◌≤◌, ◌<◌}
 use native.Mathlib.Omega.{arith}
-use Rattle.std.specs.Prelude.{Result, Ok, Err}
+use Rattle.std.specs.Prelude.{Result, Ok}
 use Rattle.space.specs.declared.refusal.Refusal.{Refusal}
 use mathlib.Core.Path.{◌≡◌, refl, sym, ap, ◌∙◌, subst}
 use mathlib.Core.Bool.{Bool}
@@ -26,8 +26,8 @@ use Rattle.laws.proofs.Limits as limits
 use Rattle.laws.proofs.Distances.{apart_symmetric}
 use Rattle.laws.proofs.Table.{table-length, table_at, cell_self, cell-direct, cell-label, own_closing}
 use Rattle.search.specs.declared.Counts.{Counts}
-use Rattle.walk.specs.declared.Step.TheVariants.{Moved, AtEnd}
-use Rattle.walk.specs.declared.End.{End}
+use Rattle.walk.specs.declared.answers.Step.TheVariants.{Moved, AtEnd}
+use Rattle.walk.specs.declared.answers.End.{End}
 use Rattle.walk.specs.Whole.{Arrived, BySteps}
 use Rattle.walk.proofs.Whole.{by_steps, arrives, arrives_at-zero}
 use Rattle.sheet.specs.declared.Head.{Head}

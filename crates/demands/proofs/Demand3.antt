@@ -1,8 +1,7 @@
 -- Demand 3, of what the search's entry returns and writes. Assumes nothing.
 use Prim.Native.Nat.{ℕ, ◌≤◌, ◌<◌, min}
 use native.Mathlib.Omega.{arith}
-use Rattle.std.specs.Prelude.{Result, Ok, Err}
-use Rattle.space.specs.declared.refusal.Refusal.{Refusal}
+use Rattle.std.specs.Prelude.{Ok}
 use mathlib.Core.Path.{◌≡◌, refl, sym, ap, ◌∙◌}
 use mathlib.Core.List.{List, ◌++◌, map}
 use lib.Dec.{eqb}

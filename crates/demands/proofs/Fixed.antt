@@ -1,7 +1,7 @@
 -- Document 01, "What each stated result has to fix": "Show that two results meeting the statement are equal." Each public entry's answer and every lent cell
 -- afterwards are fixed: two calls on the same input that meet its contract agree in all of it. Assumes nothing.
 use Prim.Native.Nat.{ℕ}
-use Rattle.std.specs.Prelude.{Result, Ok, Err}
+use Rattle.std.specs.Prelude.{Result}
 use Rattle.space.specs.declared.refusal.Refusal.{Refusal}
 use mathlib.Core.Path.{◌≡◌, sym, ◌∙◌}
 use mathlib.Core.List.{List}
@@ -10,12 +10,12 @@ use Rattle.rules.specs.Walk.{Walk}
 use Rattle.rules.specs.Sheet.{Contents}
 use Rattle.rules.specs.Entries.{Ask}
 use Rattle.search.specs.declared.Counts.{Counts}
-use Rattle.walk.specs.declared.Step.{Step}
-use Rattle.walk.specs.declared.End.{End}
+use Rattle.walk.specs.declared.answers.Step.{Step}
+use Rattle.walk.specs.declared.answers.End.{End}
 use Rattle.sheet.specs.declared.Head.{Head}
 use Rattle.sheet.specs.declared.Numbers.{Numbers}
 use Rattle.search.proofs.Told.{search-told}
-use Rattle.walk.specs.declared.Walk.{Walk as Kept}
+use Rattle.walk.specs.declared.answers.Walk.{Walk as Kept}
 use Rattle.walk.specs.Answers.{record_of}
 use Rattle.walk.proofs.Told.{step_told, record_told, walk-told}
 use Rattle.sheet.specs.declared.Numbers.{Numbers}

@@ -14,7 +14,7 @@ use Rattle.space.specs.declared.question.Asked.{Asked}
 use Rattle.space.specs.Told.{number_in}
 use Rattle.space.proofs.Told.{number-one, number-some}
 use Rattle.space.proofs.Same.{points_one, asked_one}
-use Rattle.walk.specs.declared.Stepped.{Stepped}
+use Rattle.walk.specs.declared.answers.Stepped.{Stepped}
 use Rattle.walk.specs.Answers.{at, record_in}
 use Rattle.walk.proofs.Told.{stepped-told}
 use Rattle.sheet.specs.declared.place.Place.{Place}
@@ -46,9 +46,9 @@ measure_fixed g h = one g.answers h.answers
 
 -- an answer that gives nothing is its number, so that the two above and those of `Fixed` fix it
 pub number-in_fixed : (r s : Result (Unit {0}) Refusal) → number_in r ≡ number_in s → r ≡ s
-number-in_fixed (Ok tt) (Ok tt) e = refl
-number-in_fixed (Ok tt) (Err s) e = absurd (number-some s (sym e))
-number-in_fixed (Err r) (Ok tt) e = absurd (number-some r e)
+number-in_fixed (Ok a) (Ok b) e = refl
+number-in_fixed (Ok a) (Err s) e = absurd (number-some s (sym e))
+number-in_fixed (Err r) (Ok b) e = absurd (number-some r e)
 number-in_fixed (Err r) (Err s) e = ap Err (number-one r s e)
 
 -- what is handed on is fixed by its fields
@@ -70,11 +70,11 @@ pub question-check_fixed : {q : Question} {start : ℕ} {r s : Result Asked Refu
 question-check_fixed {r = r} {s = s} g h =
     checked-one r s (one g.answers h.answers)
     (λ a b e f.
-        asked_one a b
-        (points_one a.points b.points (one (IfOk-at_ok _ e g.set_is) (IfOk-at_ok _ f h.set_is)))
-        (one (IfOk-at_ok _ e g.table_is) (IfOk-at_ok _ f h.table_is))
-        (one (IfOk-at_ok _ e g.query_is) (IfOk-at_ok _ f h.query_is))
-        (one (IfOk-at_ok _ e g.threshold_is) (IfOk-at_ok _ f h.threshold_is)))
+    asked_one a b
+    (points_one a.points b.points (one (IfOk-at_ok _ e g.set_is) (IfOk-at_ok _ f h.set_is)))
+    (one (IfOk-at_ok _ e g.table_is) (IfOk-at_ok _ f h.table_is))
+    (one (IfOk-at_ok _ e g.query_is) (IfOk-at_ok _ f h.query_is))
+    (one (IfOk-at_ok _ e g.threshold_is) (IfOk-at_ok _ f h.threshold_is)))
 
 pub coordinates_fixed : {d id : ℕ} {vectors p q : List ℤ} → CoordinatesCall d vectors id p → CoordinatesCall d vectors id q → p ≡ q
 coordinates_fixed g h = one g.hands h.hands

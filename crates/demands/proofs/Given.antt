@@ -1,8 +1,7 @@
 -- What an answer that is no refusal tells: its values are the rules', and so are the beginnings of the lent buffers. The demands start from here. Assumes nothing.
 use Prim.Native.Nat.{ℕ, ◌≤◌, ◌<◌}
 use native.Mathlib.Omega.{arith}
-use Rattle.std.specs.Prelude.{Result, Ok, Err}
-use Rattle.space.specs.declared.refusal.Refusal.{Refusal}
+use Rattle.std.specs.Prelude.{Ok}
 use mathlib.Core.Path.{◌≡◌, sym, ap, ◌∙◌}
 use mathlib.Core.List.{List}
 use lib.IntN.{ℤ}
@@ -20,7 +19,7 @@ use Rattle.laws.proofs.Refusals.{after_new, outcome-none, outcome_value}
 use Rattle.search.specs.declared.Counts.{Counts}
 use Rattle.search.proofs.Finish.{search_ok}
 use Rattle.search.proofs.OffLine.{small_ids}
-use Rattle.walk.specs.declared.End.{End}
+use Rattle.walk.specs.declared.answers.End.{End}
 use Rattle.walk.specs.Answers.{end_in}
 use Rattle.demands.specs.Calls.{SearchCall, WalkCall, WriteCall}
 

@@ -9,8 +9,8 @@ use Rattle.rules.specs.Entries.{Ask, point_of, table_after, search_answer, ids_a
 use Rattle.space.specs.declared.refusal.Refusal.{Refusal}
 use Rattle.search.specs.declared.Counts.{Counts}
 use Rattle.search.specs.Answer.{told}
-use Rattle.walk.specs.declared.Step.{Step}
-use Rattle.walk.specs.declared.End.{End}
+use Rattle.walk.specs.declared.answers.Step.{Step}
+use Rattle.walk.specs.declared.answers.End.{End}
 use Rattle.walk.specs.Answers as walk
 use Rattle.sheet.specs.declared.Head.{Head}
 use Rattle.sheet.specs.declared.Numbers.{Numbers}
