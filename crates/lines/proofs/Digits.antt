@@ -51,9 +51,6 @@ length-small x l = ap length (decimal-small x l)
 pub length_more : (x : ℕ) → 10 ≤ x → length (decimal x) ≡ length (decimal (x / 10)) + 1
 length_more x l = ap length (decimal_more x l) ∙ length-append (decimal (x / 10)) ((48 + x % 10) ∷ [])
 
-pub length_some : (x : ℕ) → 1 ≤ length (decimal x)
-length_some x = ⊎_elim (λ h. omega (arith, length_more x h)) (λ h. omega (arith, length-small x h)) (le_or_lt 10 x)
-
 -- a number below a power of ten has as many digits at most
 pub length-below : (k x : ℕ) → x < 10 ^ suc k → length (decimal x) ≤ suc k
 length-below zero x l = omega (arith, length-small x l)

@@ -23,9 +23,6 @@ pub record Ahead {S : Type 0} (room : S → ℕ) (took : S → List ℕ → S �
   pub rest_puts : (u : S) (r : Result (Unit {0}) TooShort) → Puts room took now rest u r → Puts room took start whole u r
 
 module _ {S : Type 0} {room : S → ℕ} {took : S → List ℕ → S → Type 0} where
-  pub ahead_start : (s : S) (l : List ℕ) → Ahead room took s l s l
-  ahead_start s l = record { rest_puts = λ u r h. h }
-
   pub ahead_more : (laws : SinkLaws room took) {start now next : S} {whole rest a b : List ℕ} → Ahead room took start whole now rest → rest ≡ a ++ b
       → took now a next → Ahead room took start whole next b
   ahead_more laws h e x = record { rest_puts = λ u r p. h.rest_puts u r (rw e (then_puts laws x p)) }

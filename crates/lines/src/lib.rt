@@ -5,7 +5,7 @@
 mod line;
 mod sink;
 
-ghost use Rattle.std.specs.Prelude.{◌≡◌};
+ghost use Rattle.std.specs.Prelude.{◌≡◌, Some, codes};
 ghost use Rattle.rules.specs.Lines.{set_line, found_line, ask_refused_line, near_line, trail_line, refused_line};
 ghost use Rattle.lines.specs.Placing.{placed_answer, placed_after, three_lines};
 
@@ -19,6 +19,8 @@ use std::fmt;
 pub struct TooShort;
 
 impl fmt::Display for TooShort {
+    ghost output = { λ _. Some (codes "the buffer is too short") };
+
     fn fmt<W: fmt::Write>(&self, f: &mut fmt::Formatter<W>) -> fmt::Result {
         write!(f, "the buffer is too short")
     }
