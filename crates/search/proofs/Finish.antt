@@ -13,7 +13,7 @@ use Rattle.rules.specs.Order.{keyed, count, firsts}
 use Rattle.rules.specs.Labels.{edge_in}
 use Rattle.rules.specs.Search.{State, search, answer}
 use Rattle.rules.specs.Refusals.{outside, start_refusal, search_refusal, refuse7, refuse8, refuse9, refuse10}
-use Rattle.rules.specs.Entries.{Counts, Ask, ask, farness, order_of, edges_of, searched, near_ids, near_distances, counts_of, asked_refusal, refusal_of}
+use Rattle.rules.specs.Entries.{Counts, Ask, farness, order_of, edges_of, searched, near_ids, near_distances, counts_of, asked_refusal, refusal_of}
 use Rattle.rules.specs.Entries.{search_answer, ids_after, distances_after, trail_after}
 use Rattle.laws.proofs.Tests.{or_off, or_off_r}
 use Rattle.laws.proofs.Refusals.{skipped, outcome-gives, outcome-refused, after_new, after_old}

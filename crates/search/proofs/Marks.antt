@@ -1,9 +1,9 @@
 -- What the tests of a mark say, and what a written mark leaves of them. Assumes nothing.
 use Prim.Native.Nat.{ℕ, ◌<◌}
 use mathlib.Core.Path.{◌≡◌, refl, ap}
-use mathlib.Core.Bool.{Bool, true, false}
+use mathlib.Core.Bool.{true, false}
 use mathlib.Core.List.{List}
-use lib.ListN.{length, get_or, set}
+use lib.ListN.{length, set}
 use lib.Seq.{get_or-set_same, get_or-set_other}
 use Rattle.laws.proofs.Tests.{never}
 use Rattle.search.specs.declared.see.Mark.{Mark}
@@ -24,11 +24,6 @@ pub waiting_seen : (m : Mark) → is_waiting m ≡ true → is_seen m ≡ true
 waiting_seen Unseen e = e
 waiting_seen Waiting e = refl
 waiting_seen Walked e = refl
-
-pub not-waiting : (m : Mark) → (m ≡ Waiting → ⊥) → is_waiting m ≡ false
-not-waiting Unseen d = refl
-not-waiting Waiting d = absurd (d refl)
-not-waiting Walked d = refl
 
 module _ (marks : List Mark) (x : ℕ) (m : Mark) where
   module _ (there : x < length marks) where

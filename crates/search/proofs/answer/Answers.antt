@@ -1,6 +1,5 @@
 -- `search::answer` meets its contract. Assumes nothing.
 use native.Mathlib.Omega.{arith}
-use native.Mathlib.Nat.{le_antisymm}
 use mathlib.Core.Path.{refl}
 use Rattle.search.proofs.Filling.{filled_step, filled_end}
 use Rattle.search.proofs.answer.Goals as goal

@@ -1,6 +1,6 @@
 -- `search::search` meets its contract. Assumes nothing.
-use Prim.Native.Nat.{ℕ, ◌≤◌, ◌<◌, min}
-use mathlib.Core.Path.{◌≡◌, refl, sym, ap, ap₂, ◌∙◌}
+use Prim.Native.Nat.{min}
+use mathlib.Core.Path.{◌≡◌, ap, ap₂, ◌∙◌}
 use native.Mathlib.Omega.{arith}
 use lib.ListN.{length}
 use Rattle.std.proofs.lemmas.Result.{err_from_is_err_and}
@@ -11,7 +11,7 @@ use Rattle.search.specs.Answer.{asked}
 use Rattle.search.specs.Rest.{reached}
 use Rattle.search.proofs.Starting.{started}
 use Rattle.search.proofs.Seeing.{few}
-use Rattle.search.proofs.Finish.{room, refusing-first, refusing-next, explored_as, giving}
+use Rattle.search.proofs.Finish.{refusing-first, refusing-next, explored_as, giving}
 use Rattle.search.proofs.search.Goals as goal
 
 pub returns-in_err-question : goal.returns-in_err-question

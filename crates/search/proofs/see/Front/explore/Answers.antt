@@ -1,15 +1,8 @@
 -- `search::Front::explore` meets its contract. Assumes nothing.
-use Prim.Native.Nat.{ℕ, ◌%◌, ◌≤◌, ◌<◌}
-use mathlib.Core.Path.{◌≡◌, refl, sym, ap, ◌∙◌, subst}
-use mathlib.Core.Bool.{true, false}
-use mathlib.Core.List.{List}
-use lib.ListN.{length, get_or}
+use mathlib.Core.Path.{refl, sym, ◌∙◌}
 use native.Mathlib.Omega.{arith}
-use Rattle.rules.specs.Points.{away}
-use Rattle.search.specs.Line.{waits}
-use Rattle.search.specs.Seen.{Lined, key_of, goes_on, Visited}
 use Rattle.search.proofs.Seeing.{few}
-use Rattle.search.proofs.Rounds.{Round, round_start, next-waits, room, round_step, round_end}
+use Rattle.search.proofs.Rounds.{round_start, next-waits, room, round_step, round_end}
 use Rattle.search.proofs.see.Front.explore.Goals as goal
 
 pub loop-from-init : goal.loop-from-init

@@ -1,6 +1,6 @@
 -- `search::Front::follow` meets its contract. Assumes nothing.
-use Prim.Native.Nat.{ℕ, ◌-◌, ◌≤◌, ◌<◌}
-use mathlib.Core.Path.{◌≡◌, ◌∙◌, sym}
+use Prim.Native.Nat.{◌-◌, ◌<◌}
+use mathlib.Core.Path.{◌≡◌, ◌∙◌}
 use native.Mathlib.Omega.{arith}
 use lib.ListN.{length, get_or}
 use Rattle.search.proofs.Following.{following_reach, following_end}
@@ -13,8 +13,7 @@ loop-i-preserved-then-row-id c =
     let inv = c.loop-i.invariant in
     let place : c.loop-i.i - 1 < self.left = omega (arith, c.loop-i-test.true, inv.0.in_list) in
     let there : get_or self.rest (c.loop-i.i - 1) 0 < length self.marks =
-    omega (arith, self.listed.below (c.loop-i.i - 1) place, self.lined.marks_size, few self.asked) in
-    (
+    omega (arith, self.listed.below (c.loop-i.i - 1) place, self.lined.marks_size, few self.asked) in (
       following_reach inv.0 c.loop-i-test.true (rw c.from-id.ensures at c.if-row-id.true) there self.listed.size self.listed.few c.reach.ensures.reached,
       c.reach.ensures.asked ∙ inv.1,
     )

@@ -1,15 +1,12 @@
 -- `search::Front::see` meets its contract. Assumes nothing.
-use Prim.Native.Nat.{ℕ, ◌<◌}
-use mathlib.Core.Path.{◌≡◌, refl, sym, ap, ◌∙◌, subst}
-use mathlib.Core.List.{List, ◌∷◌, ◌++◌}
+use Prim.Native.Nat.{◌<◌}
+use mathlib.Core.Path.{◌≡◌, refl}
 use native.Mathlib.Omega.{arith}
-use lib.ListN.{length, get_or, take, drop}
+use lib.ListN.{length, get_or}
 use borrow.Author.Rules.{rules}
-use Rattle.rules.specs.Points.{away}
-use Rattle.search.specs.declared.see.Mark.{Mark}
 use Rattle.search.specs.declared.see.Mark.TheVariants.{Unseen, Waiting}
 use Rattle.search.proofs.Listing.{rest_mark}
-use Rattle.search.proofs.Places.{written_back, entered}
+use Rattle.search.proofs.Places.{written_back}
 use Rattle.search.proofs.Seeing.{few, line_room, see_lined}
 use Rattle.search.proofs.see.Front.see.Goals as goal
 
