@@ -3,7 +3,7 @@ use Prim.Native.Nat.{ℕ, ◌-◌, ◌≤◌, ◌<◌}
 use native.Mathlib.Nat.{lt_irrefl}
 use native.Mathlib.Omega.{arith}
 use mathlib.Core.Path.{◌≡◌, refl, sym, ◌∙◌}
-use mathlib.Core.Logic.{◌⊎◌, inl, inr, ⊎_elim, ∥∥₁_elim}
+use mathlib.Core.Logic.{◌⊎◌, inr, ⊎_elim, ∥∥₁_elim}
 use mathlib.Core.Bool.{Bool, true, false}
 use mathlib.Core.List.{List}
 use lib.Dec.{eqb}
@@ -30,22 +30,7 @@ pub record Following (row : List ℕ) (m : ℕ) (old new : List Mark) (rest : Li
   pub passed : (j : ℕ) → i ≤ j → j < left → m < get_or row (get_or rest j 0) 0
   pub in_list : i ≤ left
 
-pub following_start : (marks : List Mark) (rest : List ℕ) (left : ℕ) (row : List ℕ) (m : ℕ) → Following row m marks marks rest left left
-following_start marks rest left row m = record { size = refl; each = λ y. inl refl; passed = λ j a b. absurd (lt_irrefl j (omega arith)); in_list = omega arith }
-
 module _ {m i left : ℕ} {row : List ℕ} {old new : List Mark} {rest : List ℕ} (h : Following row m old new rest i left) where
-  -- the cell of the next id is above the threshold
-  pub following_pass : m < get_or row (get_or rest (i - 1) 0) 0 → Following row m old new rest (i - 1) left
-  following_pass far = record {
-    size = h.size;
-    each = h.each;
-    passed = λ j a b. ⊎_elim (λ k. h.passed j k b) (λ k. by j a b k) (le_or_lt i j);
-    in_list = omega (arith, h.in_list);
-  }
-    where
-      by : (j : ℕ) → i - 1 ≤ j → j < left → j < i → m < get_or row (get_or rest j 0) 0
-      by j a b k = let e : j ≡ i - 1 = omega arith in rw e far
-
   -- the next id is reached
   pub following_reach : 0 < i → get_or row (get_or rest (i - 1) 0) 0 ≤ m → get_or rest (i - 1) 0 < length new → length rest ≡ 128 → left ≤ 128 →
       {new' : List Mark} {rest' : List ℕ} {left' : ℕ} → Reached new rest (i - 1) left new' rest' left' → Following row m old new' rest' (i - 1) left'

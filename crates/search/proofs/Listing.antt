@@ -1,6 +1,5 @@
 -- The list of the ids that may not be seen yet: at first, when a point goes on the trail, and when one is reached. Assumes nothing.
-use Prim.Native.Nat.{ℕ, ◌+◌, ◌-◌, ◌≤◌, ◌<◌}
-use native.Mathlib.Nat.{lt_irrefl}
+use Prim.Native.Nat.{ℕ, ◌-◌, ◌≤◌, ◌<◌}
 use native.Mathlib.Omega.{arith}
 use mathlib.Core.Path.{◌≡◌, refl, sym, ap, ◌∙◌}
 use mathlib.Core.Logic.{⊎_elim, ∥∥₁_map}
@@ -15,25 +14,9 @@ use Rattle.search.specs.declared.see.Mark.{Mark}
 use Rattle.search.specs.declared.see.Mark.TheVariants.{Unseen, Waiting}
 use Rattle.search.specs.Line.{sees, is_seen}
 use Rattle.search.specs.Rest.{Numbered, Rest, reached}
-use Rattle.search.proofs.Marks.{not-unseen, sees-same}
+use Rattle.search.proofs.Marks.{sees-same}
 
 -- ---- at first
-
-pub numbered_start : (rest : List ℕ) → length rest ≡ 128 → Numbered 0 rest
-numbered_start rest e = record { size = e; each = λ j l. absurd (lt_irrefl j (omega arith)) }
-
-pub numbered_step : {i : ℕ} {rest : List ℕ} → Numbered i rest → i < 128 → (rest' : List ℕ) → rest' ≡ set rest i i → Numbered (i + 1) rest'
-numbered_step {i} {rest} h l rest' q = rw q (record {
-  size = length-set rest i i ∙ h.size;
-  each = λ j k.
-      ⊎_elim
-      (λ e. let s = eqb-true j i e in rw s (get_or-set_same rest i i 0 (omega (arith, h.size))))
-      (λ e. let d = eqb-false j i e in get_or-set_other rest i j i 0 d ∙ h.each j (less j k d))
-      (both (eqb j i));
-})
-  where
-    less : (j : ℕ) → j < i + 1 → (j ≡ i → ⊥) → j < i
-    less j k d = omega (arith, d)
 
 pub rest-start : {n : ℕ} {rest : List ℕ} → Numbered 128 rest → n ≤ 128 → (marks : List Mark) → Rest n marks rest n
 rest-start {n} h small marks = record {
@@ -62,9 +45,6 @@ rest_mark {n} {left} {marks} {rest} h x m there seen = record {
 
 pub reached_new : (id : ℕ) (marks : List Mark) → get_or marks id Unseen ≡ Unseen → set marks id Waiting ≡ reached id marks
 reached_new id marks z = let e : sees marks id ≡ false = ap is_seen z in rw e
-
-pub reached-seen : (id : ℕ) (marks : List Mark) → (get_or marks id Unseen ≡ Unseen → ⊥) → marks ≡ reached id marks
-reached-seen id marks d = let e : sees marks id ≡ true = not-unseen _ d in rw e
 
 -- it is seen, and leaves the list
 pub rest_leave : {n left i : ℕ} {marks : List Mark} {rest : List ℕ} → Rest n marks rest left → i < left →

@@ -25,11 +25,6 @@ waiting_seen Unseen e = e
 waiting_seen Waiting e = refl
 waiting_seen Walked e = refl
 
-pub not-waiting : (m : Mark) → (m ≡ Waiting → ⊥) → is_waiting m ≡ false
-not-waiting Unseen d = refl
-not-waiting Waiting d = absurd (d refl)
-not-waiting Walked d = refl
-
 module _ (marks : List Mark) (x : ℕ) (m : Mark) where
   module _ (there : x < length marks) where
     pub sees-same : sees (set marks x m) x ≡ is_seen m

@@ -12,7 +12,7 @@ use lib.Seq.{get_or-take}
 use borrow.Author.Tests.{eqb-true, eqb-false}
 use Rattle.rules.specs.Order.{keyed, count, firsts, Ordered}
 use Rattle.laws.specs.Line.{adding, Place}
-use Rattle.laws.proofs.Tests.{both, never, count_le, count_lt}
+use Rattle.laws.proofs.Tests.{both, never, count_lt}
 use Rattle.laws.proofs.Order.{firsts_same}
 use Rattle.laws.proofs.Keyed.{keyed_ordered, keyed_id}
 use Rattle.laws.proofs.Line.{Whole, get_d_map, listed, whole_rising, line_whole, line_length, line_insert}
@@ -58,12 +58,9 @@ module _ (n : ℕ) (D : ℕ → ℕ) (small : n ≤ 128) where
     pub line_id : (i : ℕ) → i < length line → get_or line i 0 % 128 ≡ get_or (in_line marks) i 0
     line_id i l = ap (λ (k : ℕ). k % 128) (line_key i l) ∙ keyed_id D (get_or (in_line marks) i 0) (omega (arith, (line_seen i l).0))
 
-    -- an id of the set has a mark, and the seen ids have room in the line
-    pub mark-there : {id : ℕ} → id < n → id < length marks
+    -- an id of the set has a mark
+    mark-there : {id : ℕ} → id < n → id < length marks
     mark-there l = omega (arith, h.marks_size, small)
-
-    pub line_holds : length line ≤ n
-    line_holds = omega (arith, many, count_le n (sees marks))
 
     -- ---- one more id
 

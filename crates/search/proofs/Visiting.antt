@@ -1,25 +1,22 @@
 -- A visit: the marks stand for a state of the search, and a visit changes both alike. Assumes nothing.
-use Prim.Native.Nat.{ℕ, ◌+◌, ◌-◌, ◌*◌, ◌≤◌, ◌<◌}
-use native.Mathlib.Nat.{mul-le-mul_right}
-use native.Mathlib.Omega.{arith}
+use Prim.Native.Nat.{ℕ, ◌<◌}
 use mathlib.Core.Path.{◌≡◌, refl, sym, ap, ◌∙◌}
 use mathlib.Core.Logic.{⊎_elim}
 use mathlib.Core.Bool.{Bool, true, false, cond, not, ◌&&◌, ◌||◌, false≢true}
 use mathlib.Core.List.{List, [], ◌∷◌, ◌++◌, map}
 use lib.Dec.{leb, eqb}
-use lib.ListN.{length, get_or, set, take, drop, length-set}
-use lib.Seq.{get_or-take, get_or-drop, get_or-set_same, get_or-set_other}
+use lib.ListN.{length, get_or, set, length-set}
+use lib.Seq.{get_or-set_same, get_or-set_other}
 use borrow.Author.Tests.{eqb-true, eq-eqb, ne_eqb, eqb-false}
 use Rattle.rules.specs.Order.{on}
 use Rattle.rules.specs.Search.{State, waiting, visit}
-use Rattle.laws.proofs.Tests.{both, le_or_lt, and_false, or_r, or_false}
+use Rattle.laws.proofs.Tests.{both, and_false, or_r, or_false}
 use Rattle.laws.proofs.Order.{firsts_same}
 use Rattle.laws.proofs.Visits.{on_snoc}
-use Rattle.laws.proofs.Refusals.{small-square}
 use Rattle.search.specs.declared.see.Mark.{Mark}
 use Rattle.search.specs.declared.see.Mark.TheVariants.{Unseen, Waiting, Walked}
-use Rattle.search.specs.Line.{waits, sees, is_waiting, is_seen, Opened}
-use Rattle.search.specs.Seen.{Lined, marked_at, Marked, Visited}
+use Rattle.search.specs.Line.{waits, sees, is_waiting, is_seen}
+use Rattle.search.specs.Seen.{Lined, marked_at, Marked}
 use Rattle.search.proofs.Marks.{waiting_seen, sees-same, sees-other, waits-same, waits-other}
 
 -- the marks stand for the state s
@@ -56,35 +53,6 @@ module _ (marks : List Mark) (x : ℕ) (lx : x < length marks) (w : waits marks 
     from_in = h.from_in;
     passed = λ i l. waits-less _ (h.passed i l);
   }
-
--- a row of the table is within it, and the table is small
-pub row_fits : (n x : ℕ) → n ≤ 128 → x < n → (x * n + n ≤ n * n) × (n * n ≤ 16384)
-row_fits n x small l = (omega (arith, mul-le-mul_right n l), small-square n small)
-
--- a cell of the part from a to a + n
-part-cell : (table : List ℕ) (a n y : ℕ) → y < n → get_or (take (a + n - a) (drop a table)) y 0 ≡ get_or table (a + y) 0
-part-cell table a n y l = get_or-take (a + n - a) (drop a table) y 0 (omega arith) ∙ get_or-drop a table y 0
-
--- the place where the next one waits
-pub visited : {n : ℕ} {table : List ℕ} {marks marks' : List Mark} {line' : List ℕ} {m x from from' : ℕ} →
-    Marked n (take (x * n + n - x * n) (drop (x * n) table)) m (set marks x Walked) marks' →
-    Opened line' marks' (length line') from from' → Visited n table m x marks marks' line' from'
-visited {n} {table = table} {x = x} k o = record {
-  row = take (x * n + n - x * n) (drop (x * n) table);
-  cells = part-cell table (x * n) n;
-  marked = k;
-  waits_there = o.open_there;
-}
-
--- the line from there on
-pub opened : {n : ℕ} {key : ℕ → ℕ} {marks : List Mark} {line : List ℕ} {from from' : ℕ} → Lined n key marks line from →
-    Opened line marks (length line) from from' → Lined n key marks line from'
-opened {from = from} h o = record {
-  marks_size = h.marks_size;
-  keys = h.keys;
-  from_in = o.within;
-  passed = λ i l. ⊎_elim (λ a. o.passed i a l) (λ b. h.passed i b) (le_or_lt from i);
-}
 
 -- ---- the state and the marks
 

@@ -1,5 +1,5 @@
 // Points are visited, one after the other, until the stop.
-ghost use Rattle.std.specs.Prelude.{◌≡◌, ◌<◌, ◌≤◌, true, false, ℕ, length, slice_index_or};
+ghost use Rattle.std.specs.Prelude.{◌≡◌, ◌<◌, ◌≤◌, true, length};
 ghost use Rattle.search.specs.Line.{waits};
 ghost use Rattle.search.specs.Seen.{key_of, Visited, Explored, goes_on, IsFresh};
 
@@ -39,7 +39,7 @@ impl Front<'_> {
             self.old.marks trail.old self.new.line.items trail.new result }
     {
         let mut walked = 0;
-        // No `for`: the stop is a test, and no index or list is run through.
+        // A `for` over the places of the trail is no plainer: the stop is a test, and it mostly comes before they end.
         while self.goes_on(width) {
             let from = self.from;
             let x = (self.line[from] % 128) as u16;
