@@ -1,5 +1,5 @@
 // The table's rows. The ids get their cells in order from u, so that all points that could stand between are decided before.
-ghost use Rattle.std.specs.Prelude.{◌≡◌, ◌+◌, ◌*◌, ◌<◌, ◌≤◌, ◌%◌, leb, length, set, replicate, fold, min};
+ghost use Rattle.std.specs.Prelude.{◌≡◌, ◌+◌, ◌*◌, ◌<◌, ◌≤◌, ◌%◌, leb, length, set, replicate};
 ghost use Rattle.rules.specs.Labels.{cell, table_of};
 ghost use Rattle.table.specs.Kept.{far};
 ghost use Rattle.table.specs.Rows.{top, lowest, led, Spread, cell_by, Queued, Sofar, Written, RowOf};
@@ -7,7 +7,7 @@ ghost use Rattle.table.specs.Rows.{top, lowest, led, Spread, cell_by, Queued, So
 use crate::kept::Distances;
 use crate::label;
 
-// Above every distance and every key: it stands for none.
+// Above every distance and every key: it stands for none. An Option is no plainer here: in its order None comes first, and here it has to come last.
 const TOP: u32 = u32::MAX;
 
 // The least distance to x from a point that leads, where v leads too if it is nearer to u than x is.
@@ -87,7 +87,7 @@ impl<'a> Row<'a> {
         }
     }
 
-    // The first key of those that wait.
+    // The first key of those that wait; TOP where none does. As an Option, asked by a `while let`, it takes the build from 1.08 to 1.16 ms.
     fn first_key(&self) -> u32
         ensures { result ≡ lowest self.now.left }
     {
