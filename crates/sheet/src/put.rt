@@ -19,22 +19,22 @@ pub(crate) struct Pen<'a> {
 
 impl Pen<'_> {
     // The last k bits of v into the byte that the next bit lies in; the bits after them, to the byte's end, become 0.
-    fn part(&mut self, k: usize, v: u32)
+    fn part(&mut self, k: usize, v: usize)
         requires some { 1 ≤ k }
         requires inside { self.old.next % 8 + k ≤ 8 }
         requires room { Room self.old k }
         ensures { Puts self.old self.new (bits k v) }
     {
-        let j = self.next / 8;
-        let m = self.next % 8;
-        let x = u32::from(self.out[j]);
-        let kept = (x >> (8 - m)) << k;
-        self.out[j] = ((kept + v % (1 << k)) << (8 - m - k)) as u8;
+        let place = self.next / 8;
+        let before = self.next % 8;
+        let kept = usize::from(self.out[place]) >> (8 - before);
+        self.out[place] = (((kept << k) + v % (1 << k)) << (8 - before - k)) as u8;
         self.next += k;
     }
 
-    // A field: the last w bits of v, the most significant first.
-    fn field(&mut self, w: usize, v: u32)
+    // A field: the last w bits of v, the most significant first. A loop over the bits that are left, since its parts differ in length: up to
+    // the byte's end, whole bytes, and the rest.
+    fn field(&mut self, w: usize, v: usize)
         requires few { w < 32 }
         requires room { Room self.old w }
         ensures put { Puts self.old self.new (bits w v) }
@@ -57,7 +57,7 @@ impl Pen<'_> {
         ensures moved { self.new.next ≡ self.old.next + length zs.now * c }
     {
         for z in zs {
-            self.field(c, u32::from(z.cast_unsigned()));
+            self.field(c, usize::from(z.cast_unsigned()));
         }
     }
 
@@ -72,10 +72,10 @@ impl Pen<'_> {
         ensures { Puts self.old self.new (number_bits row.now ++ value_bits c query.now) }
     {
         let numbers = Numbers::of(row);
-        self.field(7, u32::from(numbers.start));
-        self.field(7, u32::from(numbers.width - 1));
-        self.field(7, u32::from(numbers.k - 1));
-        self.field(15, u32::from(numbers.threshold));
+        self.field(7, usize::from(numbers.start));
+        self.field(7, usize::from(numbers.width - 1));
+        self.field(7, usize::from(numbers.k - 1));
+        self.field(15, usize::from(numbers.threshold));
         self.values(c, query);
     }
 
@@ -100,10 +100,10 @@ impl Pen<'_> {
     {
         let contents = sheet.contents;
         let head = contents.head;
-        self.field(7, (head.n - 1) as u32);
-        self.field(6, (head.d - 1) as u32);
-        self.field(3, (head.c - 1) as u32);
-        self.field(8, head.asks as u32);
+        self.field(7, head.n - 1);
+        self.field(6, head.d - 1);
+        self.field(3, head.c - 1);
+        self.field(8, head.asks);
         self.values(head.c, contents.vectors);
         self.asks(sheet);
     }

@@ -27,10 +27,6 @@ impl<'a> Contents<'a> {
             ∷ refuse12 self.now.head.asks (length self.now.numbers.now)
             ∷ refuse3 self.now.head.n self.now.head.d (length self.now.vectors.now)
             ∷ refuse5 (self.now.head.asks * self.now.head.d) (length self.now.queries.now) ∷ []) }
-        ensures points { OnOk result (self.now.head.n ≤ 128) }
-        ensures coordinates { OnOk result (self.now.head.d ≤ 64) }
-        ensures width { OnOk result ((1 ≤ self.now.head.c) × (self.now.head.c ≤ 8)) }
-        ensures few { OnOk result (self.now.head.asks ≤ 127) }
         ensures numbers { OnOk result (length self.now.numbers.now ≡ 4 * self.now.head.asks) }
     {
         let head = self.head;
