@@ -3,15 +3,15 @@ use mathlib.Core.Path.{◌≡◌, refl, sym, ap, ap₂, ◌∙◌}
 use mathlib.Core.Bool.{Bool}
 use mathlib.Core.List.{List, [], ◌∷◌, ◌++◌}
 use Prim.Native.Nat.{ℕ, zero, suc, ◌+◌, ◌-◌, ◌*◌, ◌/◌, ◌%◌, ◌^◌, ◌≤◌, ◌<◌}
-use native.Mathlib.Nat.{mod-lt, mod-eq_of_lt, lt_of_lt_of_le, zero-lt-suc, div-one}
+use native.Mathlib.Nat.{mod-lt, mod-eq_of_lt, zero-lt-suc, div-one}
 use native.Mathlib.Omega.{arith}
 use lib.ListN.{length, get_or, set, length-set}
 use lib.Seq.{get_or-set_same, set-set}
 use lib.Arith.{digits_lt}
 use Rattle.std.proofs.lemmas.Nat.{one_shl, shl_whole}
-use lib.Pow.{shr_lt, shl_lt, shl-shr, shr-shr, pow_pos, pow_mono, pow-add, mod-pow-add}
+use lib.Pow.{shr_lt, shl_lt, shl-shr, shr-shr, pow_pos, pow-add, mod-pow-add}
 use Rattle.rules.specs.Bits.{bit, odd, bits}
-use Rattle.laws.proofs.Bits.{bit-odd, bits-suc, length-bits}
+use Rattle.laws.proofs.Bits.{bit-odd, bits-suc}
 use Rattle.sheet.specs.Put.{put_in, put_bit, put_bits}
 
 -- ---- their equations
