@@ -1,5 +1,4 @@
 -- The laws that the functions' proofs cite.
-pub mod Shifts
 pub mod Three
 pub mod Signs
 pub mod Filled
@@ -10,7 +9,6 @@ pub mod Putting
 pub mod Pens
 pub mod Asking
 pub mod Whole
-pub mod PuttingValues
 pub mod Bytewise
 pub mod Told
 pub mod Trips

@@ -11,7 +11,7 @@ use native.Mathlib.Nat.{div-one, mul-le-mul_right}
 use Rattle.rules.specs.Bits.{bits, all_fit, twos, value_bits}
 use Rattle.laws.proofs.Bits.{length-bits}
 use Rattle.laws.proofs.Values.{length-value_bits, fit_at}
-use Rattle.sheet.proofs.PuttingValues.{bits_eight}
+use Rattle.sheet.proofs.Signs.{bits_eight}
 use Rattle.sheet.specs.declared.put.Pen.{Pen}
 use Rattle.rules.specs.Sheet.{number_bits}
 use Rattle.sheet.specs.declared.Numbers.{Numbers}

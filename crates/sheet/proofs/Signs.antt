@@ -3,20 +3,20 @@ use Rattle.std.proofs.Common.{◌≡◌, ℕ, zero, suc, ◌+◌, ◌-◌, ◌*�
 use Rattle.std.specs.Ordering.{is_le, is_lt, int_cmp}
 use Rattle.std.specs.List.{list_all}
 use lib.IntN.{◌-ℤ◌}
-use lib.Pow.{pow_pos, pow_mono, pow-add, shl-shr, shl_lt}
+use lib.Pow.{suc_ones, pow_pos, pow_mono, pow-add, shl-shr, shl_lt}
 use lib.Signed.{shr_z, lt_z}
-use native.Mathlib.Nat.{mod-eq_of_lt, mul-le-mul_right, mul-lt-mul_of_pos_right}
-use Rattle.std.proofs.lemmas.Nat.{div-mul-add}
+use native.Mathlib.Nat.{lt_of_lt_of_le, mod-eq_of_lt, mul-le-mul_right, mul-lt-mul_of_pos_right}
+use Rattle.std.proofs.lemmas.Nat.{div-mul-add, one_shl}
 use Rattle.std.proofs.lemmas.Int.{ints, to_z_pos, of_z-to_z}
-use borrow.Author.Tests.{lt-ltb, le-ltb}
+use borrow.Author.Tests.{lt-ltb, le-ltb, ltb-true}
 use mathlib.Core.Logic.{⊎_elim}
 use mir.Syntax.{w8, w16}
 use mir.Val.{SFits, to_z, of_z}
 use mir.ValLaws.{to_z-of_z}
-use Rattle.rules.specs.Bits.{signed, signed_by, fits, all_fit}
+use Rattle.rules.specs.Bits.{bits, twos, signed, signed_by, fits, all_fit}
 use Rattle.laws.proofs.Tests.{le_or_lt}
+use Rattle.laws.proofs.Bits.{bits_above}
 use Rattle.laws.proofs.Values.{half}
-use Rattle.sheet.proofs.Shifts.{shifted}
 
 abbrev fits_half : ℕ → ℤ → Bool
 fits_half H (pos n) = ltb n H
@@ -87,6 +87,20 @@ module _ (c u : ℕ) (some : 1 ≤ c) (few : c ≤ 8) (small : u < 2 ^ c) where
       (λ (h : u < 2 ^ (c - 1)). lower h ∙ rw (lt-ltb u (2 ^ (c - 1)) h))
       (le_or_lt (2 ^ (c - 1)) u))
 
+-- ---- the code of a value that fits
+
+-- the last c bits of the two's complement in eight bits are those of the two's complement in c bits
+pub bits_eight : (c : ℕ) (z : ℤ) → c ≤ 8 → fits c z ≡ true → bits c (twos 8 z) ≡ bits c (twos c z)
+unfolding twos fits
+bits_eight c (pos n) h f = refl
+bits_eight c (negsuc n) h f =
+    let s : 8 - c + c ≡ 8 = omega arith in
+    let g : 256 ≡ suc (2 ^ (8 - c) - 1) * 2 ^ c = rw (suc_ones (8 - c), ← (pow-add 2 (8 - c) c), s) in
+    let m : n < 2 ^ (c - 1) = ltb-true n (2 ^ (c - 1)) f in
+    let l : suc n ≤ 2 ^ c = lt_of_lt_of_le m (pow_mono {i = c - 1} {j = c} (omega arith)) in
+    let e : 256 - suc n ≡ (2 ^ (8 - c) - 1) * 2 ^ c + (2 ^ c - suc n) = omega (arith, g) in
+    ap (bits c) e ∙ bits_above c (2 ^ (8 - c) - 1) (2 ^ c - suc n)
+
 -- ---- whether a value fits: it is from -H to H - 1, where H is 2 ^ (c - 1)
 
 fits-is : (c : ℕ) (z : ℤ) → fits_half (2 ^ (c - 1)) z ≡ fits c z
@@ -129,7 +143,7 @@ fits_by c z some few f {r} {x} ex er =
     let m : 2 ^ (c - 1) ≤ 128 = pow_mono {j = 7} (omega arith) in
     let i : x ≡ z = ex ∙ to_z-of_z w8 z f in
     let g : SFits w16 z = record { sfits = omega (arith, f.sfits) } in
-    er ∙ rw (i, to_z-of_z w16 z g, shifted (c - 1) 65536 (omega arith)) (go (2 ^ (c - 1)) refl (pow_pos (c - 1)) m)
+    er ∙ rw (i, to_z-of_z w16 z g, one_shl (c - 1) 16 (omega arith)) (go (2 ^ (c - 1)) refl (pow_pos (c - 1)) m)
   where
     go : (H : ℕ) → 2 ^ (c - 1) ≡ H → 1 ≤ H → H ≤ 128
         → is_le (int_cmp (to_z w16 (of_z w16 (pos 0 -ℤ to_z w16 H))) z) && is_lt (int_cmp z (to_z w16 H)) ≡ fits c z

@@ -11,7 +11,7 @@ use Rattle.rules.specs.Bits.{bits, number, unpacked, Bytes}
 use Rattle.rules.specs.Sheet.{field_at}
 use Rattle.laws.proofs.Bits.{length-bits, number_append, number-bits_lt}
 use Rattle.laws.proofs.Fields.{number-part, drop-unpacked, part_in, field_end, field-none}
-use Rattle.sheet.proofs.Shifts.{power_one}
+use Rattle.std.proofs.lemmas.Nat.{one_shl}
 
 -- three bytes as one number of 24 bits, and as bits
 abbrev pub whole : ℕ → ℕ → ℕ → ℕ
@@ -95,7 +95,7 @@ pub field_there : (ys : List ℕ) (at bits : ℕ) → Bytes ys → {w x : ℕ} �
 field_there ys at bits small {w} {x} there three =
     let few : w ≤ 16 = omega arith in
     let end : field_at ys at w ≡ field_at ys at (min bits 16) = ap (field_at ys at) there ∙ field_end ys at (min bits 16) in
-    rw (power_one w few, ← end) (go w few (omega arith))
+    rw (one_shl w 32 (omega arith), ← end) (go w few (omega arith))
   where
     go : (w : ℕ) → w ≤ 16 → (1 ≤ w → at + w ≤ length ys * 8) → x / 2 ^ (24 - at % 8 - w) % 2 ^ w ≡ field_at ys at w
     go zero few h = mod-one (x / 2 ^ (24 - at % 8 - 0)) ∙ sym (field-none ys at)

@@ -18,6 +18,7 @@ ghost use Rattle.sheet.specs.Answers.{held, row_of, write_told, head_told, ask_t
 
 use crate::place::{Place, open, past};
 use crate::read::check;
+use crate::values::Width;
 use space::Refusal;
 
 // What a sheet's header holds: n points of d coordinates, the coordinate width c and the ask count.
@@ -76,9 +77,7 @@ impl Numbers {
             threshold: row[3],
         }
     }
-}
 
-impl Numbers {
     // An ask's numbers at a place, which moves past them.
     fn read(place: &mut Place<'_>) -> Numbers
         requires { place.old.next < 2 ^ 20 }
@@ -123,7 +122,7 @@ pub fn vectors(sheet: &[u8], buffer: &mut [i8]) -> Result<(), Refusal>
     if buffer.len() != head.n * head.d {
         return Err(Refusal::Vectors);
     }
-    past(open(sheet), 24).fill(head.c, buffer);
+    past(open(sheet), 24).fill(Width { c: head.c }, buffer);
     Ok(())
 }
 
@@ -143,6 +142,6 @@ pub fn ask(sheet: &[u8], number: u16, query: &mut [i8]) -> Result<Numbers, Refus
     }
     let mut place = past(open(sheet), head.place(number));
     let numbers = Numbers::read(&mut place);
-    place.fill(head.c, query);
+    place.fill(Width { c: head.c }, query);
     Ok(numbers)
 }

@@ -5,7 +5,7 @@ ghost use Rattle.rules.specs.Sheet.{field_at};
 ghost use Rattle.sheet.specs.Past.{past_at};
 
 use crate::fields::field_at;
-use crate::values::signed_value;
+use crate::values::Width;
 
 #[derive(Clone, Copy)]
 pub struct Place<'a> {
@@ -25,15 +25,13 @@ impl Place<'_> {
         number
     }
 
-    // Fills a buffer with values of c bits each.
-    pub(crate) fn fill(mut self, c: usize, buffer: &mut [i8])
-        requires some { 1 ≤ c }
-        requires few { c ≤ 8 }
-        requires small { self.next + length buffer.old * c < 2 ^ 20 }
-        ensures { buffer.new ≡ values c (length buffer.old) (drop self.entry.next (unpacked self.entry.sheet.now)) }
+    // Fills a buffer with values of that width.
+    pub(crate) fn fill(mut self, width: Width, buffer: &mut [i8])
+        requires { self.next + length buffer.old * width.c < 2 ^ 20 }
+        ensures { buffer.new ≡ values width.c (length buffer.old) (drop self.entry.next (unpacked self.entry.sheet.now)) }
     {
         for cell in buffer.iter_mut() {
-            *cell = signed_value(c, self.take(c));
+            *cell = width.value(self.take(width.c));
         }
     }
 }

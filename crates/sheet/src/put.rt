@@ -9,6 +9,7 @@ ghost use Rattle.sheet.specs.Pen.{Puts, Room, asks_in};
 
 use crate::Numbers;
 use crate::refuse::Accepted;
+use crate::values::Width;
 
 // It keeps the output and the next bit. The bits after that one, to the byte's end, are 0.
 #[derive(Drop)]
@@ -19,28 +20,28 @@ pub(crate) struct Pen<'a> {
 
 impl Pen<'_> {
     // The last k bits of v into the byte that the next bit lies in; the bits after them, to the byte's end, become 0.
-    fn part(&mut self, k: usize, v: u32)
+    fn part(&mut self, k: usize, v: usize)
         requires some { 1 ≤ k }
         requires inside { self.old.next % 8 + k ≤ 8 }
         requires room { Room self.old k }
         ensures { Puts self.old self.new (bits k v) }
     {
-        let j = self.next / 8;
-        let m = self.next % 8;
-        let x = u32::from(self.out[j]);
-        let kept = (x >> (8 - m)) << k;
-        self.out[j] = ((kept + v % (1 << k)) << (8 - m - k)) as u8;
+        let place = self.next / 8;
+        let before = self.next % 8;
+        let kept = usize::from(self.out[place]) >> (8 - before);
+        self.out[place] = (((kept << k) + v % (1 << k)) << (8 - before - k)) as u8;
         self.next += k;
     }
 
     // A field: the last w bits of v, the most significant first.
-    fn field(&mut self, w: usize, v: u32)
+    fn field(&mut self, w: usize, v: usize)
         requires few { w < 32 }
         requires room { Room self.old w }
         ensures put { Puts self.old self.new (bits w v) }
         ensures moved { self.new.next ≡ self.old.next + w }
     {
         let mut k = w;
+        // (d) The parts of a field differ in length, so what is left is counted, and no iterator has them.
         while k > 0 {
             let t = k.min(8 - self.next % 8);
             k -= t;
@@ -48,35 +49,33 @@ impl Pen<'_> {
         }
     }
 
-    // Values of c bits each, one after the other.
-    fn values(&mut self, c: usize, zs: &[i8])
-        requires few { c ≤ 8 }
-        requires fit { all_fit c zs.now ≡ true }
-        requires room { Room self.old (length zs.now * c) }
-        ensures put { Puts self.old self.new (value_bits c zs.now) }
-        ensures moved { self.new.next ≡ self.old.next + length zs.now * c }
+    // Values of a width, one after the other.
+    fn values(&mut self, width: Width, zs: &[i8])
+        requires fit { all_fit width.c zs.now ≡ true }
+        requires room { Room self.old (length zs.now * width.c) }
+        ensures put { Puts self.old self.new (value_bits width.c zs.now) }
+        ensures moved { self.new.next ≡ self.old.next + length zs.now * width.c }
     {
         for z in zs {
-            self.field(c, u32::from(z.cast_unsigned()));
+            self.field(width.c, usize::from(z.cast_unsigned()));
         }
     }
 
     // One ask: its four numbers, then its query.
     #[tactic(auto, unfolding(rules::specs::Refusals::ask_refusal))]
-    fn ask(&mut self, c: usize, row: &[u16], query: &[i8])
-        requires few { c ≤ 8 }
+    fn ask(&mut self, width: Width, row: &[u16], query: &[i8])
         requires four { length row.now ≡ 4 }
         requires given { ask_refusal row.now ≡ 0 }
-        requires fit { all_fit c query.now ≡ true }
-        requires room { Room self.old (36 + length query.now * c) }
-        ensures { Puts self.old self.new (number_bits row.now ++ value_bits c query.now) }
+        requires fit { all_fit width.c query.now ≡ true }
+        requires room { Room self.old (36 + length query.now * width.c) }
+        ensures { Puts self.old self.new (number_bits row.now ++ value_bits width.c query.now) }
     {
         let numbers = Numbers::of(row);
-        self.field(7, u32::from(numbers.start));
-        self.field(7, u32::from(numbers.width - 1));
-        self.field(7, u32::from(numbers.k - 1));
-        self.field(15, u32::from(numbers.threshold));
-        self.values(c, query);
+        self.field(7, usize::from(numbers.start));
+        self.field(7, usize::from(numbers.width - 1));
+        self.field(7, usize::from(numbers.k - 1));
+        self.field(15, usize::from(numbers.threshold));
+        self.values(width, query);
     }
 
     // The asks.
@@ -86,9 +85,10 @@ impl Pen<'_> {
     {
         let contents = sheet.contents;
         let head = contents.head;
+        let width = Width { c: head.c };
         let queries = contents.queries.chunks_exact(head.d);
         for (row, query) in contents.numbers.chunks_exact(4).zip(queries) {
-            self.ask(head.c, row, query);
+            self.ask(width, row, query);
         }
     }
 
@@ -100,11 +100,11 @@ impl Pen<'_> {
     {
         let contents = sheet.contents;
         let head = contents.head;
-        self.field(7, (head.n - 1) as u32);
-        self.field(6, (head.d - 1) as u32);
-        self.field(3, (head.c - 1) as u32);
-        self.field(8, head.asks as u32);
-        self.values(head.c, contents.vectors);
+        self.field(7, head.n - 1);
+        self.field(6, head.d - 1);
+        self.field(3, head.c - 1);
+        self.field(8, head.asks);
+        self.values(Width { c: head.c }, contents.vectors);
         self.asks(sheet);
     }
 }

@@ -7,7 +7,7 @@ ghost use Rattle.space.specs.Told.{number_in};
 ghost use Rattle.laws.proofs.Writable.{Writable};
 ghost use Rattle.sheet.specs.Answers.{held, row_of};
 
-use crate::values::all_fit;
+use crate::values::Width;
 use crate::{Contents, Numbers};
 use space::{Refusal, is_outside};
 
@@ -27,10 +27,6 @@ impl<'a> Contents<'a> {
             ∷ refuse12 self.now.head.asks (length self.now.numbers.now)
             ∷ refuse3 self.now.head.n self.now.head.d (length self.now.vectors.now)
             ∷ refuse5 (self.now.head.asks * self.now.head.d) (length self.now.queries.now) ∷ []) }
-        ensures points { OnOk result (self.now.head.n ≤ 128) }
-        ensures coordinates { OnOk result (self.now.head.d ≤ 64) }
-        ensures width { OnOk result ((1 ≤ self.now.head.c) × (self.now.head.c ≤ 8)) }
-        ensures few { OnOk result (self.now.head.asks ≤ 127) }
         ensures numbers { OnOk result (length self.now.numbers.now ≡ 4 * self.now.head.asks) }
     {
         let head = self.head;
@@ -55,8 +51,8 @@ impl<'a> Contents<'a> {
         Ok(())
     }
 
-    #[tactic(auto, unfolding(rules::specs::Refusals::writer_refusal, rules::specs::Outcome::or_else, rules::specs::Sheet::sheet_length, rules::specs::Bits::byte_count))]
     // All refusals of the writer; where there is none, the contents as what is not refused.
+    #[tactic(auto, unfolding(rules::specs::Refusals::writer_refusal, rules::specs::Outcome::or_else, rules::specs::Sheet::sheet_length, rules::specs::Bits::byte_count))]
     pub(crate) fn check(&self, output: usize) -> Result<Accepted<'a>, Refusal>
         ensures refusal { number_in result
             ≡ writer_refusal self.now.head.n self.now.head.d self.now.head.c self.now.head.asks self.now.vectors.now self.now.numbers.now self.now.queries.now output }
@@ -66,7 +62,8 @@ impl<'a> Contents<'a> {
         self.check_shape()?;
         check_asks(self.numbers)?;
         let head = self.head;
-        if !(all_fit(head.c, self.vectors) && all_fit(head.c, self.queries)) {
+        let width = Width { c: head.c };
+        if !(width.all_fit(self.vectors) && width.all_fit(self.queries)) {
             return Err(Refusal::Misfit);
         }
         let length = head.place(head.asks).div_ceil(8);

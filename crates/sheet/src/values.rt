@@ -3,29 +3,34 @@
 ghost use Rattle.std.specs.Prelude.{◌≡◌, ◌^◌, ◌≤◌, ◌<◌};
 ghost use Rattle.rules.specs.Bits.{signed, fits, all_fit};
 
-// The value of a number of c bits: its bits, moved to the byte's front and back, bring their sign along.
-pub(crate) fn signed_value(c: usize, u: u16) -> i8
-    requires some { 1 ≤ c }
-    requires few { c ≤ 8 }
-    requires small { u < 2 ^ c }
-    ensures { result ≡ signed c u }
-{
-    ((u << (8 - c)) as u8).cast_signed() >> (8 - c)
+// A coordinate width.
+#[derive(Clone, Copy)]
+pub(crate) struct Width {
+    pub(crate) c: usize,
+    ghost some: { 1 ≤ c },
+    ghost few: { c ≤ 8 },
 }
 
-fn fits_width(c: usize, z: i8) -> bool
-    requires some { 1 ≤ c }
-    requires few { c ≤ 8 }
-    ensures { result ≡ fits c z }
-{
-    let half = 1i16 << (c - 1);
-    (-half..half).contains(&i16::from(z))
-}
+impl Width {
+    // The value of a number of c bits: its bits, moved to the byte's front and back, bring their sign along.
+    pub(crate) fn value(self, u: u16) -> i8
+        requires { u < 2 ^ self.c }
+        ensures { result ≡ signed self.c u }
+    {
+        let rest = 8 - self.c;
+        ((u << rest) as u8).cast_signed() >> rest
+    }
 
-pub(crate) fn all_fit(c: usize, values: &[i8]) -> bool
-    requires some { 1 ≤ c }
-    requires few { c ≤ 8 }
-    ensures { result ≡ all_fit c values.now }
-{
-    values.iter().all(|z| fits_width(c, *z))
+    fn fits(self, z: i8) -> bool
+        ensures { result ≡ fits self.c z }
+    {
+        let half = 1i16 << (self.c - 1);
+        (-half..half).contains(&i16::from(z))
+    }
+
+    pub(crate) fn all_fit(self, values: &[i8]) -> bool
+        ensures { result ≡ all_fit self.c values.now }
+    {
+        values.iter().all(|z| self.fits(*z))
+    }
 }

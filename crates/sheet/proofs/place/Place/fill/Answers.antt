@@ -5,10 +5,10 @@ use Rattle.sheet.proofs.Filled.{filled_none, filled_more, filled_all, read_small
 use Rattle.sheet.proofs.place.Place.fill.Goals as goal
 
 pub loop-cell-init : goal.loop-cell-init
-loop-cell-init c = record { sheet = refl; filled = filled_none _ _ c.args.c _ }
+loop-cell-init c = record { sheet = refl; filled = filled_none _ _ c.args.width.c _ }
 
-pub signed_value-requires-clause-small : goal.signed_value-requires-clause-small
-signed_value-requires-clause-small c = read_small _ _ c.args.c c.requires.few c.take.ensures.value
+pub value-requires : goal.value-requires
+value-requires c = read_small _ _ c.args.width.c c.args.width.few c.take.ensures.value
 
 pub loop-cell-preserved : goal.loop-cell-preserved
 loop-cell-preserved c =
@@ -17,12 +17,12 @@ loop-cell-preserved c =
     record {
       sheet = t.same ∙ l.invariant.sheet;
       filled =
-          filled_more _ _ c.args.c _ l.cell-index l.self.next _ l.invariant.filled l.auto.buffer c.loop-cell-test.true c.requires.few c.requires.small
-          (t.value ∙ ap (λ s. field_at s.now l.self.next (min c.args.c 16)) l.invariant.sheet) t.moved c.signed_value.ensures
+          filled_more _ _ c.args.width.c _ l.cell-index l.self.next _ l.invariant.filled l.auto.buffer c.loop-cell-test.true c.args.width.few c.requires
+          (t.value ∙ ap (λ s. field_at s.now l.self.next (min c.args.width.c 16)) l.invariant.sheet) t.moved c.value.ensures
           (record { sfits = search rules });
     }
 
 pub returns : goal.returns
 returns c =
     let l = c.loop-cell in
-    filled_all _ _ c.args.c _ l.cell-index l.self.next _ l.invariant.filled l.auto.buffer c.loop-cell-test.false l.auto.cell-index-end
+    filled_all _ _ c.args.width.c _ l.cell-index l.self.next _ l.invariant.filled l.auto.buffer c.loop-cell-test.false l.auto.cell-index-end

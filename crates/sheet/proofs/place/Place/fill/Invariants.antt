@@ -7,5 +7,5 @@ abbrev pub invariant-loop-cell : goal.invariant-loop-cell
 invariant-loop-cell l =
     record {
       sheet : l.self.sheet ≡ l.initial.self.sheet;
-      filled : Filled l.initial.self.sheet.now l.initial.self.next l.c l.buffer l.cell-index l.self.next;
+      filled : Filled l.initial.self.sheet.now l.initial.self.next l.width.c l.buffer l.cell-index l.self.next;
     }

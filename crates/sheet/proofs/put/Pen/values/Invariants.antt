@@ -5,4 +5,4 @@ use Rattle.sheet.specs.Pen.{Puts}
 use Rattle.sheet.proofs.put.Pen.values.Given as goal
 
 abbrev pub invariant-loop-z : goal.invariant-loop-z
-invariant-loop-z l = Puts l.initial.self l.self (value_bits l.c (take l.z-index l.zs))
+invariant-loop-z l = Puts l.initial.self l.self (value_bits l.width.c (take l.z-index l.zs))
