@@ -4,8 +4,11 @@
 
 ghost use Rattle.std.specs.Prelude.{◌≡◌};
 ghost use Rattle.space.specs.Told.{number_in};
+ghost use Rattle.walk.specs.Answers.{step_is};
+ghost use Rattle.cabi.specs.Plain.{moved_bit};
 
 use space::Refusal;
+use walk::Step;
 
 pub mod searches;
 pub mod sets;
@@ -19,5 +22,15 @@ fn code(answer: Result<(), Refusal>) -> u8
     match answer {
         Ok(()) => 0,
         Err(refusal) => u8::from(refusal),
+    }
+}
+
+// 1 for "moved", 0 for "at end".
+fn moved_bit(step: Step) -> u8
+    ensures { result ≡ moved_bit (step_is step) }
+{
+    match step {
+        Step::Moved => 1,
+        Step::AtEnd => 0,
     }
 }

@@ -1,20 +1,12 @@
 // The greedy walk.
 ghost use Rattle.std.specs.Prelude.{◌≡◌};
 ghost use Rattle.rules.specs.Entries.{step_answer, record_after, walk_answer};
-ghost use Rattle.walk.specs.Answers.{at, step_is};
+ghost use Rattle.walk.specs.Answers.{at};
 ghost use Rattle.cabi.specs.Plain.{number_of, cell_after, moved_bit};
 
+use crate::moved_bit;
 use space::{Question, Set};
-use walk::{Step, Walk};
-
-fn moved_bit(step: Step) -> u8
-    ensures { result ≡ moved_bit (step_is step) }
-{
-    match step {
-        Step::Moved => 1,
-        Step::AtEnd => 0,
-    }
-}
+use walk::Walk;
 
 // One step of a walk record, current and moves. `moved` becomes 1 for "moved" and 0 for "at end".
 pub fn magpiehinge_step(
