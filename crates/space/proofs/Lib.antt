@@ -1,5 +1,4 @@
 -- Laws that the proofs of `space` share, what its answers say, and what the coordinates of a set that is not refused are.
 pub mod Sums
-pub mod Wide
 pub mod Measured
 pub mod Told
