@@ -4,13 +4,14 @@ use native.Mathlib.Omega.{arith}
 use native.Mathlib.Numerals.{add-one}
 use mathlib.Core.Path.{◌≡◌, refl, sym, ap, ◌∙◌}
 use mathlib.Core.Logic.{⊎_elim}
-use mathlib.Core.Bool.{Bool, true, false, ◌&&◌}
+use mathlib.Core.Bool.{true, false}
 use mathlib.Core.Option.{none, some}
 use mathlib.Core.List.{List, [], ◌∷◌, ◌++◌, map}
 use lib.ListN.{length, get_or, set, drop, length-append, length-set}
 use lib.Seq.{drop-cons, set_at, append_snoc}
 use lib.Dec.{ltb, leb}
 use borrow.Author.Tests.{ltb-true, lt-ltb, ne_eqb}
+use Rattle.std.proofs.Math.Bool.{and-true}
 use Rattle.rules.specs.Order.{keyed, on}
 use Rattle.rules.specs.Labels.{edge_in}
 use Rattle.rules.specs.Search.{State, start, waiting, visit, next, choice, run, search}
@@ -31,13 +32,9 @@ next-holds : (n : ℕ) (key : ℕ → ℕ) (width : ℕ) (s : State) (marks : Li
 unfolding next
 next-holds n key width s marks h = choice_same n key width s.seen (sees marks) (waiting s) (waits marks) h.seen h.waits
 
-and_true : (b : Bool) → b && true ≡ b
-and_true true = refl
-and_true false = refl
-
 start-holds : (n : ℕ) (marks : List Mark) → IsFresh marks → Holds n (start (sees marks)) marks
 unfolding start waiting on
-start-holds n marks fresh = record { seen = λ y l. refl; waits = λ y l. and_true (sees marks y) ∙ sym (fresh.waiting y) }
+start-holds n marks fresh = record { seen = λ y l. refl; waits = λ y l. and-true (sees marks y) ∙ sym (fresh.waiting y) }
 
 -- one more id after the trail t, in front of what the buffer held
 extend : (t trail trail' trail₀ : List ℕ) (i x : ℕ) → length t ≡ i → i < length trail₀ → trail ≡ t ++ drop i trail₀ → trail' ≡ set trail i x →
