@@ -3,7 +3,7 @@ use Rattle.std.proofs.Common.{◌≡◌, ℕ, zero, suc, ◌+◌, ◌*◌, ◌/�
 use lib.Seq.{take_at, drop_at}
 use Rattle.rules.specs.Bits.{all_fit, value_bits}
 use Rattle.rules.specs.Sheet.{number_bits, ask_bits}
-use Rattle.rules.specs.Refusals.{ask_refusal, asks_refusal}
+use Rattle.rules.specs.Refusals.{ask_refusal}
 use Rattle.laws.proofs.Values.{length-value_bits, fit_take, fit_drop}
 use Rattle.laws.proofs.Refusals.{else_both}
 use Rattle.laws.proofs.Numbers.{length-number_bits}
@@ -21,9 +21,6 @@ pub record Left (a b : Pen) (all rest : List Bool) : Type 0 where
   pub long : length b.out.now ≡ length a.out.now
   pub next : b.next + length rest ≡ a.next + length all
   pub out : put_bits b.out.now b.next rest ≡ put_bits a.out.now a.next all
-
-pub left_start : (a : Pen) (all : List Bool) → Left a a all all
-left_start a all = record { same = refl; long = refl; next = refl; out = refl }
 
 pub left_room : (a b : Pen) (all u rest : List Bool) → Left a b all (u ++ rest) → Room a (length all) → Room b (length u)
 left_room a b all u rest l r =
@@ -52,12 +49,6 @@ pub record Asks (d c : ℕ) (a b : Pen) (all : List Bool) (ns : List ℕ) (qs : 
   pub given : rows_refusal ns ≡ 0
   pub fit : all_fit c qs ≡ true
   pub left : Left a b all (ask_bits d c (length ns / 4) ns qs)
-
-pub asks_start : (d c asks : ℕ) (a : Pen) (ns : List ℕ) (qs : List ℤ) → length ns ≡ 4 * asks → length qs ≡ asks * d → asks_refusal asks ns ≡ 0
-    → all_fit c qs ≡ true → Asks d c a a (ask_bits d c asks ns qs) ns qs
-asks_start d c asks a ns qs en eq given fit =
-    let e : length ns / 4 ≡ asks = omega arith in
-    record { rows = omega arith; queries = rw e eq; given = rw e given; fit = fit; left = rw e (left_start a _) }
 
 pub asks_end : (d c : ℕ) (a b : Pen) (all : List Bool) (ns : List ℕ) (qs : List ℤ) → Asks d c a b all ns qs → length ns / 4 ≡ 0 → Puts a b all
 unfolding ask_bits

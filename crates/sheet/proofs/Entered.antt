@@ -1,7 +1,7 @@
 -- What the entries answer, from what the code has in hand. Assumes nothing.
 use Rattle.std.proofs.Common.{◌≡◌, ℕ, ◌≢◌, Result, Ok, Err, IfOk, sym, ap, ◌∙◌}
 use Rattle.rules.specs.Outcome.{gives, refused, outcome, after}
-use Rattle.laws.proofs.Refusals.{outcome-gives, outcome-refused, after_new, after_old}
+use Rattle.laws.proofs.Refusals.{outcome-gives, outcome-refused, after_new}
 use Rattle.space.specs.declared.refusal.Refusal.{Refusal}
 use Rattle.space.specs.Told.{number, number_in, told}
 use Rattle.space.proofs.Told.{number-some}
@@ -17,9 +17,6 @@ module _ {A : Type 0} {s : ℕ} where
 
   pub answer-given : 0 ≡ s → (a : A) → gives a ≡ outcome s a
   answer-given z a = sym (outcome-gives (sym z) a)
-
-  pub left_old : (r : Refusal) → number r ≡ s → (old new : A) → old ≡ after s old new
-  left_old r is old new = sym (after_old (due r is) old new)
 
   pub left_new : 0 ≡ s → (old new : A) → new ≡ after s old new
   left_new z old new = sym (after_new (sym z) old new)

@@ -1,8 +1,8 @@
 -- A buffer that is filled with values one after the other. Assumes nothing.
-use Rattle.std.proofs.Common.{◌≡◌, ℕ, zero, suc, ◌+◌, ◌*◌, ◌^◌, ◌≤◌, ◌<◌, min, Bool, List, [], ◌∷◌, ◌++◌, length, take, drop, ℤ, sym, ap, refl, ◌∙◌, arith}
+use Rattle.std.proofs.Common.{◌≡◌, ℕ, zero, suc, ◌+◌, ◌*◌, ◌^◌, ◌≤◌, ◌<◌, min, Bool, List, [], ◌∷◌, ◌++◌, length, take, drop, ℤ, ap, refl, ◌∙◌, arith}
 use Rattle.std.proofs.Math.ListN.{set}
 use Rattle.std.proofs.lemmas.List.{take_more_set}
-use lib.Seq.{drop-drop, take_all}
+use lib.Seq.{drop-drop}
 use native.Mathlib.Nat.{mul-le-mul_right}
 use native.Mathlib.Numerals.{add-one}
 use mir.Syntax.{w8}
@@ -50,9 +50,3 @@ filled_more ys at c buffer i p m {u} {q} {v} f long l few small is next value fi
           rw (to_z-of_z w8 v fits, take_more_set buffer i v here, f.cells, add-one i, values_push c i (drop at (unpacked ys)), value)
           (ap (λ (n : ℕ). values c i (drop at (unpacked ys)) ++ (signed c n ∷ [])) read);
     }
-
-pub filled_all : (ys : List ℕ) (at c : ℕ) (buffer : List ℤ) (i p m : ℕ) → Filled ys at c buffer i p → length buffer ≡ m → m ≤ i → i ≤ m
-    → buffer ≡ values c m (drop at (unpacked ys))
-filled_all ys at c buffer i p m f long h k =
-    let e : i ≡ m = omega arith in
-    sym (take_all i buffer (omega arith)) ∙ f.cells ∙ ap (λ (n : ℕ). values c n (drop at (unpacked ys))) e

