@@ -1,4 +1,5 @@
 // The reading place: it keeps the sheet and the next bit. All reading goes by it, and `field_from` reads by it for those who know a bit's number.
+// (a) `open`, `past`, `field` and `field_from` stay functions: they are public, and docs name each with its promise.
 ghost use Rattle.std.specs.Prelude.{◌≡◌, ◌+◌, ◌*◌, ◌^◌, ◌≤◌, ◌<◌, min, length, drop};
 ghost use Rattle.rules.specs.Bits.{values, unpacked};
 ghost use Rattle.rules.specs.Sheet.{field_at};
