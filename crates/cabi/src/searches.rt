@@ -3,7 +3,8 @@ ghost use Rattle.std.specs.Prelude.{◌≡◌};
 ghost use Rattle.rules.specs.Entries.{ask, search_answer, ids_after, distances_after, trail_after};
 ghost use Rattle.cabi.specs.Plain.{number_of, cell_after};
 
-use search::Searched;
+use search::Ask;
+use space::{Question, Set};
 
 // A search of a table: ids, squared distances and trail in their buffers, and the three counts.
 pub fn magpiehinge_search(
@@ -38,16 +39,26 @@ pub fn magpiehinge_search(
     ensures walked { walked.new
         ≡ cell_after (search_answer (ask n d vectors.now table.now query.now start threshold width k) ids.old distances.old trail.old) (λ c. c.walked) walked.old }
 {
-    let answer = search::search(
-        n, d, vectors, table, query, start, threshold, width, k, ids, distances, trail,
-    );
-    match answer {
-        Searched::Refused(refusal) => refusal,
-        Searched::Done(counts) => {
+    let set = Set { n, d, vectors };
+    let question = Question {
+        set,
+        table,
+        query,
+        threshold,
+    };
+    let ask = Ask {
+        question,
+        start,
+        width,
+        k,
+    };
+    match search::search(&ask, ids, distances, trail) {
+        Ok(counts) => {
             *found = counts.found;
             *seen = counts.seen;
             *walked = counts.walked;
             0
         }
+        Err(refusal) => u8::from(refusal),
     }
 }

@@ -5,6 +5,9 @@ ghost use Rattle.rules.specs.Points.{dist};
 ghost use Rattle.rules.specs.Refusals.{point_refusal, build_refusal};
 ghost use Rattle.rules.specs.Entries.{table_after};
 
+use crate::code;
+use space::Set;
+
 // Where the coordinates of a point start in the vectors, and how many there are.
 pub fn magpiehinge_point(
     n: usize,
@@ -18,12 +21,15 @@ pub fn magpiehinge_point(
     ensures start { start.new ≡ after (point_refusal n d (length vectors.now) id) start.old (id * d) }
     ensures count { count.new ≡ after (point_refusal n d (length vectors.now) id) count.old d }
 {
-    let refusal = space::point_refusal(n, d, vectors, id);
-    if refusal == 0 {
-        *start = id * d;
-        *count = d;
+    let set = Set { n, d, vectors };
+    match set.point_refusal(id) {
+        Ok(()) => {
+            *start = id * d;
+            *count = d;
+            0
+        }
+        Err(refusal) => u8::from(refusal),
     }
-    refusal
 }
 
 // D of two points, over the pairs that both have, at most 64.
@@ -38,5 +44,5 @@ pub fn magpiehinge_build(n: usize, d: usize, vectors: &[i8], table: &mut [u16]) 
     ensures refusal { result ≡ build_refusal n d (length vectors.now) (length table.old) }
     ensures table { table.new ≡ table_after n d vectors.now table.old }
 {
-    table::build(n, d, vectors, table)
+    code(table::build(&Set { n, d, vectors }, table))
 }

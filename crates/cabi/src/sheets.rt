@@ -5,7 +5,8 @@ ghost use Rattle.rules.specs.Refusals.{vectors_refusal};
 ghost use Rattle.rules.specs.Entries.{write_answer, output_after, header_answer, vectors_after, ask_answer, query_after};
 ghost use Rattle.cabi.specs.Plain.{number_of, cell_after};
 
-use sheet::{Asked, Headed, Written};
+use crate::code;
+use sheet::{Contents, Head};
 
 // Writes a sheet. `written` becomes its length.
 pub fn magpiehinge_write(
@@ -26,13 +27,19 @@ pub fn magpiehinge_write(
     ensures written { written.new
         ≡ cell_after (write_answer (contents n d c asks vectors.now numbers.now queries.now) output.old) (λ l. l) written.old }
 {
-    let answer = sheet::write(n, d, c, asks, vectors, numbers, queries, output);
-    match answer {
-        Written::Refused(refusal) => refusal,
-        Written::Length(length) => {
+    let head = Head { n, d, c, asks };
+    let contents = Contents {
+        head,
+        vectors,
+        numbers,
+        queries,
+    };
+    match sheet::write(&contents, output) {
+        Ok(length) => {
             *written = length;
             0
         }
+        Err(refusal) => u8::from(refusal),
     }
 }
 
@@ -50,16 +57,15 @@ pub fn magpiehinge_header(
     ensures c { c.new ≡ cell_after (header_answer sheet.now) (λ c. c.c) c.old }
     ensures asks { asks.new ≡ cell_after (header_answer sheet.now) (λ c. c.asks) asks.old }
 {
-    let answer = sheet::header(sheet);
-    match answer {
-        Headed::Refused(refusal) => refusal,
-        Headed::Holds(head) => {
+    match sheet::header(sheet) {
+        Ok(head) => {
             *n = head.n;
             *d = head.d;
             *c = head.c;
             *asks = head.asks;
             0
         }
+        Err(refusal) => u8::from(refusal),
     }
 }
 
@@ -67,7 +73,7 @@ pub fn magpiehinge_header(
 pub fn magpiehinge_vectors(sheet: &[u8], buffer: &mut [i8]) -> u8
     ensures { (result ≡ vectors_refusal sheet.now (length buffer.old)) × (buffer.new ≡ vectors_after sheet.now buffer.old) }
 {
-    sheet::vectors(sheet, buffer)
+    code(sheet::vectors(sheet, buffer))
 }
 
 // Reads one ask of a sheet: its four numbers, and its query into d cells.
@@ -90,20 +96,14 @@ pub fn magpiehinge_ask(
     ensures threshold { threshold.new
         ≡ cell_after (ask_answer sheet.now number query.old) (λ c. c.threshold) threshold.old }
 {
-    let answer = sheet::ask(sheet, number, query);
-    match answer {
-        Asked::Refused(refusal) => refusal,
-        Asked::Numbers {
-            start: from,
-            width: wide,
-            k: many,
-            threshold: limit,
-        } => {
-            *start = from;
-            *width = wide;
-            *k = many;
-            *threshold = limit;
+    match sheet::ask(sheet, number, query) {
+        Ok(numbers) => {
+            *start = numbers.start;
+            *width = numbers.width;
+            *k = numbers.k;
+            *threshold = numbers.threshold;
             0
         }
+        Err(refusal) => u8::from(refusal),
     }
 }

@@ -4,7 +4,9 @@ ghost use Rattle.rules.specs.Entries.{step_answer, record_after, walk_answer};
 ghost use Rattle.walk.specs.Answers.{at};
 ghost use Rattle.cabi.specs.Plain.{number_of, cell_after, moved_bit};
 
-use walk::{Answer, Walked};
+use crate::moved_bit;
+use space::{Question, Set};
+use walk::Walk;
 
 // One step of a walk record, current and moves. `moved` becomes 1 for "moved" and 0 for "at end".
 pub fn magpiehinge_step(
@@ -27,20 +29,25 @@ pub fn magpiehinge_step(
     ensures moved { moved.new
         ≡ cell_after (step_answer n d vectors.now table.now query.now threshold (at current.old moves.old)) moved_bit moved.old }
 {
-    let step = walk::step_at(n, d, vectors, table, query, threshold, *current, *moves);
-    *current = step.current;
-    *moves = step.moves;
-    let answer = step.answer;
+    let question = Question {
+        set: Set { n, d, vectors },
+        table,
+        query,
+        threshold,
+    };
+    let mut walk = Walk {
+        current: *current,
+        moves: *moves,
+    };
+    let answer = walk::step(&mut walk, &question);
+    *current = walk.current;
+    *moves = walk.moves;
     match answer {
-        Answer::Refused(refusal) => refusal,
-        Answer::Moved => {
-            *moved = 1;
+        Ok(step) => {
+            *moved = moved_bit(step);
             0
         }
-        Answer::AtEnd => {
-            *moved = 0;
-            0
-        }
+        Err(refusal) => u8::from(refusal),
     }
 }
 
@@ -65,14 +72,19 @@ pub fn magpiehinge_walk(
     ensures moves { moves.new
         ≡ cell_after (walk_answer n d vectors.now table.now query.now threshold start) (λ c. c.moves) moves.old }
 {
-    let answer = walk::whole_walk(n, d, vectors, table, query, start, threshold);
-    match answer {
-        Walked::Refused(refusal) => refusal,
-        Walked::Ended(end) => {
+    let question = Question {
+        set: Set { n, d, vectors },
+        table,
+        query,
+        threshold,
+    };
+    match walk::whole_walk(&question, start) {
+        Ok(end) => {
             *last = end.last;
             *distance = end.distance;
             *moves = end.moves;
             0
         }
+        Err(refusal) => u8::from(refusal),
     }
 }

@@ -1,6 +1,8 @@
 -- Demand 2, of what the entries return and write. Assumes nothing.
 use Prim.Native.Nat.{ℕ, suc, ◌≤◌, ◌<◌}
 use native.Mathlib.Omega.{arith}
+use Rattle.std.specs.Prelude.{Result, Ok}
+use Rattle.space.specs.declared.refusal.Refusal.{Refusal}
 use mathlib.Core.Path.{◌≡◌, refl, sym, ap, ◌∙◌, subst}
 use mathlib.Core.Bool.{Bool}
 use mathlib.Core.Option.{Option, none, some}
@@ -24,17 +26,12 @@ use Rattle.laws.proofs.Limits as limits
 use Rattle.laws.proofs.Distances.{apart_symmetric}
 use Rattle.laws.proofs.Table.{table-length, table_at, cell_self, cell-direct, cell-label, own_closing}
 use Rattle.search.specs.declared.Counts.{Counts}
-use Rattle.search.specs.declared.Searched.TheVariants as searching
-use Rattle.walk.specs.declared.Answer.TheVariants.{Moved, AtEnd}
-use Rattle.walk.specs.declared.End.{End}
-use Rattle.walk.specs.declared.Walked.TheVariants as walked
+use Rattle.walk.specs.declared.answers.Step.TheVariants.{Moved, AtEnd}
+use Rattle.walk.specs.declared.answers.End.{End}
 use Rattle.walk.specs.Whole.{Arrived, BySteps}
 use Rattle.walk.proofs.Whole.{by_steps, arrives, arrives_at-zero}
 use Rattle.sheet.specs.declared.Head.{Head}
-use Rattle.sheet.specs.declared.Headed.TheVariants as headed
-use Rattle.sheet.specs.declared.Asked.TheVariants as asked
-use Rattle.sheet.specs.declared.Written.{Written}
-use Rattle.sheet.specs.declared.Written.TheVariants as written
+use Rattle.sheet.specs.declared.Numbers.{Numbers}
 use Rattle.sheet.specs.Answers.{head_of}
 use Rattle.sheet.specs.AsRead.{AsRead}
 use Rattle.sheet.proofs.Told.{write_told_lem}
@@ -71,7 +68,7 @@ build_labels {n} {d} {vectors} {table} {table'} h bytes direct rule =
 -- ---- searches
 
 pub searches_by_the_rules : {a : Ask} {c : Counts} {ids distances trail ids' distances' trail' : List ℕ}
-    → SearchCall a ids distances trail (searching.Done c) ids' distances' trail'
+    → SearchCall a ids distances trail (Ok c) ids' distances' trail'
     → Searches a c ids' distances' trail'
 searches_by_the_rules h =
     let g = gave_search h in
@@ -86,13 +83,13 @@ searches_by_the_rules h =
 
 -- ---- walks
 
-same_end : {x y : End} → walked.Ended x ≡ walked.Ended y → x ≡ y
+same_end : {x y : End} → ◌≡◌ {A = Result End Refusal} (Ok x) (Ok y) → x ≡ y
 same_end e = cc
 
 module _ {n d threshold : ℕ} {vectors query : List ℤ} {table : List ℕ} where
   -- a step that moves goes where the rule says, and counts
   pub step_moves : {w w' : Walk}
-      → StepCall n d vectors table query threshold w Moved w'
+      → StepCall n d vectors table query threshold w (Ok Moved) w'
       → (x : ℕ) × (goes_to n d vectors table query threshold w.current ≡ some x) × (w' ≡ record { current = x; moves = suc w.moves })
   unfolding step_answer record_after stepped step_from
   step_moves {w} {w'} h =
@@ -105,7 +102,7 @@ module _ {n d threshold : ℕ} {vectors query : List ℤ} {table : List ℕ} whe
 
   -- a step at the end has nowhere to go, and the record stays
   pub step_stays : {w w' : Walk}
-      → StepCall n d vectors table query threshold w AtEnd w'
+      → StepCall n d vectors table query threshold w (Ok AtEnd) w'
       → (goes_to n d vectors table query threshold w.current ≡ none) × (w' ≡ w)
   unfolding step_answer record_after stepped step_from
   step_stays {w} {w'} h =
@@ -116,7 +113,7 @@ module _ {n d threshold : ℕ} {vectors query : List ℤ} {table : List ℕ} whe
       go none e q = (refl, q)
       go (some x) e q = let z : ◌≡◌ {A = ℕ} 0 1 = cc in absurd (omega arith)
 
-  module _ {start : ℕ} {e : End} (h : WalkCall n d vectors table query threshold start (walked.Ended e)) where
+  module _ {start : ℕ} {e : End} (h : WalkCall n d vectors table query threshold start (Ok e)) where
     pub walks_by_the_rules : Walks n d vectors table query threshold start e
     unfolding end_of
     walks_by_the_rules =
@@ -135,26 +132,26 @@ module _ {n d threshold : ℕ} {vectors query : List ℤ} {table : List ℕ} whe
     -- it ends at an id of the set where no step moves, in at most n - 1 moves
     pub walk_ends : Arrived n d vectors table query threshold e
     walk_ends =
-        let a = arrives n d vectors table query threshold start (walk_taken h) (walked.Ended e) h.answers in
+        let a = arrives n d vectors table query threshold start (walk_taken h) (Ok e) h.answers in
         subst (Arrived n d vectors table query threshold) (sym (same_end a.1)) a.2
 
     -- on the set's own table, at every threshold, a query equal to some point ends at D = 0
     pub walk_to_a_point : table ≡ table_of (apart d vectors) n → (v : ℕ) → v < n → query ≡ coordinates d vectors v → e.distance ≡ 0
     walk_to_a_point own v lv is =
         let closing : Closing (apart d vectors) n (edge_in table n threshold) = rw own (own_closing (apart d vectors) n (apart_symmetric d vectors) threshold) in
-        let a = arrives_at-zero n d vectors table query threshold start (walk_taken h) closing v lv is (walked.Ended e) h.answers in
+        let a = arrives_at-zero n d vectors table query threshold start (walk_taken h) closing v lv is (Ok e) h.answers in
         ap (λ (x : End). x.distance) (same_end a.1) ∙ a.2
 
 -- ---- sheets
 
 -- the sheet of the contents is written at the output's beginning, and the bytes past it are as they were
 pub writes_the_sheet : {k : Contents} {output output' : List ℕ} {l : ℕ}
-    → WriteCall k output (written.Length l) output'
+    → WriteCall k output (Ok l) output'
     → (l ≡ length (sheet k)) × (output' ≡ over (sheet k) output)
 writes_the_sheet h = (gave_length h, gave_sheet h)
 
 -- what the three readers give is what the sheet's fields hold
-pub reads_the_header : {ys : List ℕ} {k : Head} → HeaderCall ys (headed.Holds k) → k ≡ head_of ys
+pub reads_the_header : {ys : List ℕ} {k : Head} → HeaderCall ys (Ok k) → k ≡ head_of ys
 unfolding header_answer
 reads_the_header h =
     let is = sym (outcome_value _ _ _ (sym h.answers)) in λ i. record { n = (is i).n; d = (is i).d; c = (is i).c; asks = (is i).asks }
@@ -163,27 +160,27 @@ pub reads_the_vectors : {ys : List ℕ} {buffer buffer' : List ℤ} → VectorsC
 unfolding vectors_after
 reads_the_vectors h = h.buffer_holds ∙ after_new (sym h.answers) _ _
 
-pub reads_an_ask : {ys : List ℕ} {i start width k threshold : ℕ} {query query' : List ℤ}
-    → AskCall ys i query (asked.Numbers start width k threshold) query'
-    → (record { start = start; width = width; k = k; threshold = threshold } ≡ numbers_of (ask_numbers ys i)) × (query' ≡ ask_query ys i)
+pub reads_an_ask : {ys : List ℕ} {i : ℕ} {a : Numbers} {query query' : List ℤ}
+    → AskCall ys i query (Ok a) query'
+    → (record { start = a.start; width = a.width; k = a.k; threshold = a.threshold } ≡ numbers_of (ask_numbers ys i)) × (query' ≡ ask_query ys i)
 unfolding ask_answer query_after
 reads_an_ask h =
     (sym (outcome_value _ _ _ (sym h.answers)), h.query-holds ∙ after_new (outcome-none _ _ _ (sym h.answers)) _ _)
 
 -- reading a written sheet gives back its contents
 pub read_what_was_written : {k : Contents} {output output' : List ℕ} {l : ℕ}
-    → WriteCall k output (written.Length l) output'
+    → WriteCall k output (Ok l) output'
     → AsRead (take l output') k
 read_what_was_written {k} {output} {output'} {l} h =
     subst (λ (ys : List ℕ). AsRead (take l ys) k) (sym h.output_holds) (read_written k output l (sym h.answers))
 
 -- writing what was read gives back its bytes, into any output that has room for them
-pub write_what_was_read : {ys : List ℕ} {k : Contents} {output output' : List ℕ} {r : Written}
+pub write_what_was_read : {ys : List ℕ} {k : Contents} {output output' : List ℕ} {r : Result ℕ Refusal}
     → Bytes ys
     → AsRead ys k
     → length ys ≤ length output
     → WriteCall k output r output'
-    → (r ≡ written.Length (length ys)) × (output' ≡ over ys output)
+    → (r ≡ Ok (length ys)) × (output' ≡ over ys output)
 write_what_was_read {ys} {k} {output} {output'} {r} bytes was room h =
     let w = write_read ys bytes k was output room in
-    (write_told_lem r (written.Length (length ys)) (h.answers ∙ w.0), h.output_holds ∙ w.1)
+    (write_told_lem r (Ok (length ys)) (h.answers ∙ w.0), h.output_holds ∙ w.1)

@@ -1,6 +1,7 @@
 -- Demand 3, of what the search's entry returns and writes. Assumes nothing.
 use Prim.Native.Nat.{ℕ, ◌≤◌, ◌<◌, min}
 use native.Mathlib.Omega.{arith}
+use Rattle.std.specs.Prelude.{Ok}
 use mathlib.Core.Path.{◌≡◌, refl, sym, ap, ◌∙◌}
 use mathlib.Core.List.{List, ◌++◌, map}
 use lib.Dec.{eqb}
@@ -17,7 +18,6 @@ use Rattle.laws.proofs.Keyed.{keyed_ordered, keyed_le}
 use Rattle.laws.proofs.Distances.{apart_symmetric}
 use Rattle.laws.proofs.Table.{own_closing}
 use Rattle.search.specs.declared.Counts.{Counts}
-use Rattle.search.specs.declared.Searched.TheVariants.{Done}
 use Rattle.demands.specs.Calls.{SearchCall}
 use Rattle.demands.specs.Demand3.{widened, Wider, Exact}
 use Rattle.demands.proofs.Given.{gave_search, ids_begin, distances_begin, trail_begins, id_at, distance-at, id_small}
@@ -28,8 +28,8 @@ pub narrow_and_wide : (a : Ask) (wide : ℕ)
     → a.width ≤ wide
     → {ids distances trail ids' distances' trail' : List ℕ} {c : Counts}
     → {ids₂ distances₂ trail₂ ids₂' distances₂' trail₂' : List ℕ} {c₂ : Counts}
-    → SearchCall a ids distances trail (Done c) ids' distances' trail'
-    → SearchCall (widened a wide) ids₂ distances₂ trail₂ (Done c₂) ids₂' distances₂' trail₂'
+    → SearchCall a ids distances trail (Ok c) ids' distances' trail'
+    → SearchCall (widened a wide) ids₂ distances₂ trail₂ (Ok c₂) ids₂' distances₂' trail₂'
     → Wider c c₂ ids' distances' trail' ids₂' distances₂' trail₂'
 unfolding near_ids searched order_of edges_of farness
 narrow_and_wide a wide le {c = c} {c₂ = c₂} h h₂ =
@@ -54,7 +54,7 @@ pub exactly_the_nearest : (a : Ask)
     → a.table ≡ table_of (apart a.d a.vectors) a.n
     → a.n ≤ a.width
     → {ids distances trail ids' distances' trail' : List ℕ} {c : Counts}
-    → SearchCall a ids distances trail (Done c) ids' distances' trail'
+    → SearchCall a ids distances trail (Ok c) ids' distances' trail'
     → Exact a c ids' distances'
 unfolding near_ids near_distances searched order_of edges_of farness
 exactly_the_nearest a own wide h =

@@ -1,6 +1,7 @@
 -- What an answer that is no refusal tells: its values are the rules', and so are the beginnings of the lent buffers. The demands start from here. Assumes nothing.
 use Prim.Native.Nat.{ℕ, ◌≤◌, ◌<◌}
 use native.Mathlib.Omega.{arith}
+use Rattle.std.specs.Prelude.{Ok}
 use mathlib.Core.Path.{◌≡◌, sym, ap, ◌∙◌}
 use mathlib.Core.List.{List}
 use lib.IntN.{ℤ}
@@ -16,13 +17,10 @@ use Rattle.rules.specs.Entries.{Ask, farness, order_of, searched, near_ids, near
 use Rattle.laws.proofs.Line.{get_d_map}
 use Rattle.laws.proofs.Refusals.{after_new, outcome-none, outcome_value}
 use Rattle.search.specs.declared.Counts.{Counts}
-use Rattle.search.specs.declared.Searched.TheVariants.{Done}
 use Rattle.search.proofs.Finish.{search_ok}
 use Rattle.search.proofs.OffLine.{small_ids}
-use Rattle.walk.specs.declared.End.{End}
-use Rattle.walk.specs.declared.Walked.TheVariants as walked
+use Rattle.walk.specs.declared.answers.End.{End}
 use Rattle.walk.specs.Answers.{end_in}
-use Rattle.sheet.specs.declared.Written.TheVariants as written
 use Rattle.demands.specs.Calls.{SearchCall, WalkCall, WriteCall}
 
 -- ---- a buffer that something was put over
@@ -50,7 +48,7 @@ pub record Gave (a : Ask) (c : Counts) (ids distances trail ids' distances' trai
   pub trail_is : trail' ≡ over (searched a).trail trail
 
 pub gave_search : {a : Ask} {c : Counts} {ids distances trail ids' distances' trail' : List ℕ}
-    → SearchCall a ids distances trail (Done c) ids' distances' trail'
+    → SearchCall a ids distances trail (Ok c) ids' distances' trail'
     → Gave a c ids distances trail ids' distances' trail'
 unfolding search_answer ids_after distances_after trail_after refusal_of asked_refusal counts_of
 gave_search {a} {c} {ids} {distances} {trail} h =
@@ -98,20 +96,20 @@ module _ {a : Ask} {c : Counts} {ids distances trail ids' distances' trail' : Li
 -- ---- a walk and a writer
 
 module _ {n d threshold start : ℕ} {vectors query : List ℤ} {table : List ℕ} {e : End} where
-  pub walk_taken : WalkCall n d vectors table query threshold start (walked.Ended e)
+  pub walk_taken : WalkCall n d vectors table query threshold start (Ok e)
       → walk_refusal n d (length vectors) (length table) (length query) start threshold ≡ 0
   unfolding walk_answer
   walk_taken h = outcome-none _ _ _ (sym h.answers)
 
-  pub gave_end : WalkCall n d vectors table query threshold start (walked.Ended e) → end_in e ≡ end_of n d vectors table query threshold start
+  pub gave_end : WalkCall n d vectors table query threshold start (Ok e) → end_in e ≡ end_of n d vectors table query threshold start
   unfolding walk_answer
   gave_end h = sym (outcome_value _ _ _ (sym h.answers))
 
 module _ {k : Contents} {output output' : List ℕ} {l : ℕ} where
-  pub gave_length : WriteCall k output (written.Length l) output' → l ≡ length (sheet k)
+  pub gave_length : WriteCall k output (Ok l) output' → l ≡ length (sheet k)
   unfolding write_answer
   gave_length h = sym (outcome_value _ _ _ (sym h.answers))
 
-  pub gave_sheet : WriteCall k output (written.Length l) output' → output' ≡ over (sheet k) output
+  pub gave_sheet : WriteCall k output (Ok l) output' → output' ≡ over (sheet k) output
   unfolding write_answer output_after
   gave_sheet h = h.output_holds ∙ after_new (outcome-none _ _ _ (sym h.answers)) _ _

@@ -13,7 +13,7 @@ use Rattle.rules.proofs.Examples.{examples}
 use Rattle.laws.proofs.Refusals.{after_new}
 use Rattle.laws.proofs.Table.{table_at}
 use Rattle.search.specs.declared.Counts.{Counts}
-use Rattle.search.specs.declared.Searched.TheVariants.{Done}
+use Rattle.std.specs.Prelude.{Ok}
 use Rattle.demands.specs.Calls.{DistanceCall, BuildCall, SearchCall}
 use Rattle.demands.proofs.Demand2.{searches_by_the_rules}
 
@@ -56,7 +56,7 @@ pub record Shows (c : Counts) (found seen walked : ℕ) (ids distances trail ids
 
 shows : {a : Ask} {found seen walked : ℕ} {near far way ids distances trail ids' distances' trail' : List ℕ} {c : Counts}
     → Gives a found seen walked near far way
-    → SearchCall a ids distances trail (Done c) ids' distances' trail'
+    → SearchCall a ids distances trail (Ok c) ids' distances' trail'
     → Shows c found seen walked near far way ids' distances' trail'
 unfolding counts_of
 shows g h =
@@ -72,13 +72,13 @@ shows g h =
 
 -- P3: ask 0
 pub p3 : {c : Counts} {ids distances trail ids' distances' trail' : List ℕ}
-    → SearchCall (asked 1 1) ids distances trail (Done c) ids' distances' trail'
+    → SearchCall (asked 1 1) ids distances trail (Ok c) ids' distances' trail'
     → Shows c 1 3 2 (1 ∷ []) (1 ∷ []) (0 ∷ 1 ∷ []) ids' distances' trail'
 p3 h = shows examples.p3 h
 
 -- P4: ask 1
 pub p4 : {c : Counts} {ids distances trail ids' distances' trail' : List ℕ}
-    → SearchCall (asked 3 2) ids distances trail (Done c) ids' distances' trail'
+    → SearchCall (asked 3 2) ids distances trail (Ok c) ids' distances' trail'
     → Shows c 2 3 3 (1 ∷ 2 ∷ []) (1 ∷ 1 ∷ []) (0 ∷ 1 ∷ 2 ∷ []) ids' distances' trail'
 p4 h = shows examples.p4 h
 

@@ -2,7 +2,9 @@
 -- no lent cell is changed, and no check is left to the caller. Every call ends."
 -- No entry has a `requires`, and that every call ends is part of what the checker proves of each function. The rest is said here: an entry refuses exactly
 -- if its order (`rules`, Refusals) gives a number, with that number, and then every lent cell is as it was.
-use Rattle.std.specs.Prelude.{ℕ, ◌≡◌, ◌≢◌}
+use Rattle.std.specs.Prelude.{ℕ, ◌≡◌, ◌≢◌, Result, Err}
+use Rattle.space.specs.declared.refusal.Refusal.{Refusal}
+use Rattle.space.specs.Told.{number}
 
 -- an entry that answers its refusal number itself, 0 for none, where its order gives `given`
 pub record AnswersNumber (number given : ℕ) (Unchanged : Type 0) : Type 0 where
@@ -10,7 +12,7 @@ pub record AnswersNumber (number given : ℕ) (Unchanged : Type 0) : Type 0 wher
   pub unchanged : given ≢ 0 → Unchanged
 
 -- an entry whose answer is a refusal or what it gives, where its order gives `given`
-pub record Refuses {Answer : Type 0} (refusal : ℕ → Answer) (answer : Answer) (given : ℕ) (Unchanged : Type 0) : Type 0 where
-  pub refused : given ≢ 0 → answer ≡ refusal given
-  pub only_then : (number : ℕ) → answer ≡ refusal number → (given ≢ 0) × (number ≡ given)
+pub record Refuses {A : Type 0} (answer : Result A Refusal) (given : ℕ) (Unchanged : Type 0) : Type 0 where
+  pub refused : given ≢ 0 → (r : Refusal) × (answer ≡ Err r) × (number r ≡ given)
+  pub only_then : (r : Refusal) → answer ≡ Err r → (given ≢ 0) × (number r ≡ given)
   pub unchanged : given ≢ 0 → Unchanged

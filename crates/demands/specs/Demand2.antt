@@ -8,7 +8,7 @@ use Rattle.rules.specs.Order.{count}
 use Rattle.rules.specs.Entries.{Ask, searched, near_ids, near_distances, ending}
 use Rattle.laws.specs.Labelled.{LabelBy}
 use Rattle.search.specs.declared.Counts.{Counts}
-use Rattle.walk.specs.declared.End.{End}
+use Rattle.walk.specs.declared.answers.End.{End}
 
 -- The labels of a built table: 65,535 on the diagonal, 0 for a direct edge, else the label of the rule (`laws`, Labelled). `direct` is whatever solves the
 -- rule for direct edges; there is one solution (`laws`, `direct_one`).

@@ -1,23 +1,26 @@
-// The entries, by the records of specs/Calls. (`walk::step` lends its record by reference; its contract is that of `walk::step_at`.)
-ghost use Rattle.rules.specs.Sheet.{contents};
-ghost use Rattle.rules.specs.Entries.{ask};
-ghost use Rattle.walk.specs.Answers.{at, record_in};
+// The entries, by the records of specs/Calls.
+ghost use Rattle.std.specs.Prelude.{length};
+ghost use Rattle.space.specs.Told.{number_in};
+ghost use Rattle.search.specs.Answer.{asked};
+ghost use Rattle.walk.specs.Answers.{record_of};
+ghost use Rattle.sheet.specs.Answers.{held};
 ghost use Rattle.demands.specs.Calls.{PointCall, PointRefusalCall, DistanceCall, BuildCall, SearchCall, StepCall, WalkCall, WriteCall, HeaderCall, VectorsCall, AskCall};
 
-use search::Searched;
-use sheet::{Asked, Headed, Written};
-use walk::{Stepped, Walked};
+use search::{Ask, Counts};
+use sheet::{Contents, Head, Numbers};
+use space::{Question, Refusal, Set};
+use walk::{End, Step, Stepped, Walk};
 
-fn point_call(n: usize, d: usize, vectors: &[i8], id: usize) -> &[i8]
-    ensures { PointCall n d vectors.now id result.now }
+fn point_call<'a>(set: &Set<'a>, id: usize) -> &'a [i8]
+    ensures { PointCall set.now.n set.now.d set.now.vectors.now id result.now }
 {
-    space::point(n, d, vectors, id)
+    set.point(id)
 }
 
-fn point_refusal_call(n: usize, d: usize, vectors: &[i8], id: usize) -> u8
-    ensures { PointRefusalCall n d vectors.now id result }
+fn point_refusal_call(set: &Set<'_>, id: usize) -> Result<(), Refusal>
+    ensures { PointRefusalCall set.now.n set.now.d set.now.vectors.now id (number_in result) }
 {
-    space::point_refusal(n, d, vectors, id)
+    set.point_refusal(id)
 }
 
 fn distance_call(a: &[i8], b: &[i8]) -> u32
@@ -26,90 +29,63 @@ fn distance_call(a: &[i8], b: &[i8]) -> u32
     space::distance(a, b)
 }
 
-fn build_call(n: usize, d: usize, vectors: &[i8], table: &mut [u16]) -> u8
-    ensures { BuildCall n d vectors.now table.old result table.new }
+fn build_call(set: &Set<'_>, table: &mut [u16]) -> Result<(), Refusal>
+    ensures { BuildCall set.now.n set.now.d set.now.vectors.now table.old (number_in result) table.new }
 {
-    table::build(n, d, vectors, table)
+    table::build(set, table)
 }
 
 fn search_call(
-    n: usize,
-    d: usize,
-    vectors: &[i8],
-    table: &[u16],
-    query: &[i8],
-    start: u16,
-    threshold: u16,
-    width: u16,
-    k: u16,
+    ask: &Ask<'_>,
     ids: &mut [u16],
     distances: &mut [u32],
     trail: &mut [u16],
-) -> Searched
-    ensures { SearchCall (ask n d vectors.now table.now query.now start threshold width k) ids.old distances.old trail.old result ids.new distances.new trail.new }
+) -> Result<Counts, Refusal>
+    ensures { SearchCall (asked ask.now) ids.old distances.old trail.old result ids.new distances.new trail.new }
 {
-    search::search(
-        n, d, vectors, table, query, start, threshold, width, k, ids, distances, trail,
-    )
+    search::search(ask, ids, distances, trail)
 }
 
-fn step_call(
-    n: usize,
-    d: usize,
-    vectors: &[i8],
-    table: &[u16],
-    query: &[i8],
-    threshold: u16,
-    current: u16,
-    moves: u16,
-) -> Stepped
-    ensures { StepCall n d vectors.now table.now query.now threshold (at current moves) result.answer (record_in result) }
+fn step_call(walk: &mut Walk, question: &Question<'_>) -> Result<Step, Refusal>
+    ensures { StepCall question.now.set.n question.now.set.d question.now.set.vectors.now question.now.table.now question.now.query.now question.now.threshold
+        (record_of walk.old) result (record_of walk.new) }
 {
-    walk::step_at(n, d, vectors, table, query, threshold, current, moves)
+    walk::step(walk, question)
 }
 
-fn walk_call(
-    n: usize,
-    d: usize,
-    vectors: &[i8],
-    table: &[u16],
-    query: &[i8],
-    start: u16,
-    threshold: u16,
-) -> Walked
-    ensures { WalkCall n d vectors.now table.now query.now threshold start result }
+fn step_at_call(question: &Question<'_>, walk: Walk) -> Stepped
+    ensures { StepCall question.now.set.n question.now.set.d question.now.set.vectors.now question.now.table.now question.now.query.now question.now.threshold
+        (record_of walk) result.answer (record_of result.walk) }
 {
-    walk::whole_walk(n, d, vectors, table, query, start, threshold)
+    walk::step_at(question, walk)
 }
 
-fn write_call(
-    n: usize,
-    d: usize,
-    c: usize,
-    asks: usize,
-    vectors: &[i8],
-    numbers: &[u16],
-    queries: &[i8],
-    output: &mut [u8],
-) -> Written
-    ensures { WriteCall (contents n d c asks vectors.now numbers.now queries.now) output.old result output.new }
+fn walk_call(question: &Question<'_>, start: u16) -> Result<End, Refusal>
+    ensures { WalkCall question.now.set.n question.now.set.d question.now.set.vectors.now question.now.table.now question.now.query.now question.now.threshold
+        start result }
 {
-    sheet::write(n, d, c, asks, vectors, numbers, queries, output)
+    walk::whole_walk(question, start)
 }
 
-fn header_call(sheet: &[u8]) -> Headed
+fn write_call(contents: &Contents<'_>, output: &mut [u8]) -> Result<usize, Refusal>
+    ensures { WriteCall (held contents.now) output.old result output.new }
+{
+    sheet::write(contents, output)
+}
+
+fn header_call(sheet: &[u8]) -> Result<Head, Refusal>
     ensures { HeaderCall sheet.now result }
 {
     sheet::header(sheet)
 }
 
-fn vectors_call(sheet: &[u8], buffer: &mut [i8]) -> u8
-    ensures { VectorsCall sheet.now buffer.old result buffer.new }
+fn vectors_call(sheet: &[u8], buffer: &mut [i8]) -> Result<(), Refusal>
+    ensures { VectorsCall sheet.now buffer.old (number_in result) buffer.new }
 {
     sheet::vectors(sheet, buffer)
 }
 
-fn ask_call(sheet: &[u8], number: u16, query: &mut [i8]) -> Asked
+fn ask_call(sheet: &[u8], number: u16, query: &mut [i8]) -> Result<Numbers, Refusal>
     ensures { AskCall sheet.now number query.old result query.new }
 {
     sheet::ask(sheet, number, query)

@@ -5,12 +5,11 @@ use mathlib.Core.Bool.{Bool, true, false, cond}
 use mathlib.Core.List.{List, [], ◌∷◌}
 use native.Mathlib.Nat.{le_of_suc-le-suc, zero-add, suc-add}
 use native.Mathlib.Omega.{arith}
-use lib.Dec.{T, ltb, leb→le}
-use lib.IntN.{ℤ, pos, negsuc, neg_ℤ, sub_ℕ, ◌+ℤ◌, ◌-ℤ◌, ◌*ℤ◌, nat_abs, neg_ℤ-+ℤ, neg_ℤ-neg_ℤ, +ℤ_comm, +ℤ_invr}
-use lib.Signed.{mag, le_z}
+use lib.Dec.{ltb}
+use lib.IntN.{ℤ, pos, negsuc, neg_ℤ, sub_ℕ, ◌+ℤ◌, ◌-ℤ◌, nat_abs, neg_ℤ-+ℤ, neg_ℤ-neg_ℤ, +ℤ_comm, +ℤ_invr}
+use lib.Signed.{mag}
 use lib.ListN.{length, take, drop}
 use lib.Seq.{take-nil}
-use borrow.Author.Tests.{le-ltb}
 use Rattle.rules.specs.Points.{square, dist, coordinates, apart}
 use Rattle.rules.specs.Edges.{Symmetric}
 
@@ -70,17 +69,6 @@ gap_le (negsuc a) (pos zero) h k = abs_sub 0 (suc a) 255 (omega arith) (omega ar
 gap_le (negsuc a) (pos (suc b)) h k = omega arith
 gap_le (negsuc a) (negsuc b) h k = abs_sub (suc b) (suc a) 255 (omega arith) (omega arith) (omega arith)
 
--- a difference that is not negative
-sub_le : (a b : ℕ) → b ≤ a → sub_ℕ a b ≡ pos (nat_abs (sub_ℕ a b))
-sub_le a b h = rw (le-ltb a b h)
-
-pub above : (x y : ℤ) → T (le_z y x) → x -ℤ y ≡ pos (nat_abs (x -ℤ y))
-above (pos a) (pos zero) h = refl
-above (pos a) (pos (suc b)) h = sub_le a (suc b) (leb→le (suc b) a h)
-above (pos a) (negsuc b) h = refl
-above (negsuc a) (pos b) h = absurd h
-above (negsuc a) (negsuc b) h = sub_le (suc b) (suc a) (omega (arith, leb→le a b h))
-
 abs_neg : (z : ℤ) → nat_abs (neg_ℤ z) ≡ nat_abs z
 abs_neg (pos zero) = refl
 abs_neg (pos (suc n)) = refl
@@ -88,11 +76,6 @@ abs_neg (negsuc n) = refl
 
 pub abs_swap : (x y : ℤ) → nat_abs (y -ℤ x) ≡ nat_abs (x -ℤ y)
 abs_swap x y = sym (abs_neg (y -ℤ x)) ∙ ap nat_abs (neg_ℤ-+ℤ y (neg_ℤ x) ∙ ap (λ (z : ℤ). neg_ℤ y +ℤ z) (neg_ℤ-neg_ℤ x) ∙ +ℤ_comm (neg_ℤ y) x)
-
--- a whole number times itself
-pub times_self : (z : ℤ) → z *ℤ z ≡ pos (square z)
-times_self (pos n) = refl
-times_self (negsuc n) = refl
 
 -- ---- D between a point and itself, and the other way round
 

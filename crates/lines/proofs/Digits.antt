@@ -8,6 +8,8 @@ use mathlib.Core.List.{List, [], ◌∷◌, ◌++◌}
 use lib.ListN.{length, length-append}
 use borrow.Author.Tests.{lt-ltb, le-ltb}
 use Rattle.rules.specs.Lines.{decimal_in, decimal, part}
+use Rattle.std.specs.Fmt.{decimal as std_decimal}
+use Rattle.std.proofs.lemmas.Fmt.{decimal_by_steps}
 use Rattle.laws.proofs.Tests.{le_or_lt}
 
 in_small : (f x : ℕ) → x < 10 → decimal_in (suc f) x ≡ (48 + x) ∷ []
@@ -49,9 +51,6 @@ length-small x l = ap length (decimal-small x l)
 pub length_more : (x : ℕ) → 10 ≤ x → length (decimal x) ≡ length (decimal (x / 10)) + 1
 length_more x l = ap length (decimal_more x l) ∙ length-append (decimal (x / 10)) ((48 + x % 10) ∷ [])
 
-pub length_some : (x : ℕ) → 1 ≤ length (decimal x)
-length_some x = ⊎_elim (λ h. omega (arith, length_more x h)) (λ h. omega (arith, length-small x h)) (le_or_lt 10 x)
-
 -- a number below a power of ten has as many digits at most
 pub length-below : (k x : ℕ) → x < 10 ^ suc k → length (decimal x) ≤ suc k
 length-below zero x l = omega (arith, length-small x l)
@@ -61,23 +60,16 @@ length-below (suc k) x l =
     (λ h. omega (arith, length-small x h))
     (le_or_lt 10 x)
 
--- ---- counted from the last
-
-pub record Counted (x count rest : ℕ) : Type 0 where
-  pub is : count + length (decimal rest) ≡ 1 + length (decimal x)
-
-pub counted_start : (x : ℕ) → Counted x 1 x
-counted_start x = record { is = refl }
-
-pub counted_step : {x count rest : ℕ} → Counted x count rest → 10 ≤ rest → Counted x (count + 1) (rest / 10)
-counted_step {x} {count} {rest} h l = record { is = omega (arith, h.is, length_more rest l) }
-
-pub counted_few : {x count rest : ℕ} → Counted x count rest → x < 2 ^ 64 → count ≤ 20
-counted_few {x} {count} {rest} h l = omega (arith, h.is, length_some rest, length-below 19 x (omega arith))
-
-pub counted_end : {x count rest : ℕ} → Counted x count rest → rest < 10 → count ≡ length (decimal x)
-counted_end {x} {count} {rest} h l = omega (arith, h.is, length-small rest l)
-
 pub length_part : (x : ℕ) → length (part x) ≡ 1 + length (decimal x)
 unfolding part
 length_part x = omega arith
+
+-- std writes the same digits
+pub decimal-as_std : (x : ℕ) → x < 2 ^ 64 → std_decimal x ≡ decimal x
+decimal-as_std x l =
+    decimal_by_steps
+    (λ n ds. ds ≡ decimal n)
+    (λ n h. sym (decimal-small n h ∙ (let e : 48 + n % 10 ≡ 48 + n = omega arith in rw e)))
+    (λ n ds h e. ap (λ (t : List ℕ). t ++ ((48 + n % 10) ∷ [])) e ∙ sym (decimal_more n h))
+    x
+    l

@@ -1,1 +1,3 @@
 pub mod Placing
+pub mod Sinks
+pub mod TwoSinks

@@ -2,133 +2,142 @@
 // keeps all it held.
 #![tactic(auto)]
 
-mod measure;
-mod measure_line;
-mod put;
-mod put_line;
+mod line;
+mod sink;
 
-ghost use Rattle.std.specs.Prelude.{◌≡◌};
+ghost use Rattle.std.specs.Prelude.{◌≡◌, Some, codes};
 ghost use Rattle.rules.specs.Lines.{set_line, found_line, ask_refused_line, near_line, trail_line, refused_line};
 ghost use Rattle.lines.specs.Placing.{placed_answer, placed_after, three_lines};
 
-// Whether bytes were placed: the buffer is too short, or the place after them.
-#[derive(Clone, Copy)]
-pub enum Placed {
-    Short,
-    End(usize),
+use line::{Answer, AskRefused, Bytes, Line, Near, Refused, Set, Trail};
+use sink::{Page, Room};
+use std::error::Error;
+use std::fmt;
+
+// The buffer has no room for all the bytes.
+#[derive(Clone, Copy, Debug, PartialEq, Eq)]
+pub struct TooShort;
+
+impl fmt::Display for TooShort {
+    ghost output = { λ _. Some (codes "the buffer is too short") };
+
+    fn fmt<W: fmt::Write>(&self, f: &mut fmt::Formatter<W>) -> fmt::Result {
+        write!(f, "the buffer is too short")
+    }
+}
+
+impl Error for TooShort {}
+
+// The number of an ask that is answered, and its counts.
+#[derive(Clone, Copy, Debug, PartialEq, Eq)]
+pub struct Found {
+    pub ask: usize,
+    pub found: usize,
+    pub seen: usize,
+    pub walked: usize,
+}
+
+// Each function below answers the place after the bytes. The buffer and the place stay two parameters: a struct of both would hold the `&mut`, and each
+// contract would have to say that it still holds the same one, which is no plainer.
+fn placed<L: Line>(line: &L, output: &mut [u8], at: usize) -> Result<usize, TooShort>
+    ensures answer { result ≡ placed_answer at (L.bytes line.now) output.old }
+    ensures output { output.new ≡ placed_after at (L.bytes line.now) output.old }
+{
+    let left = output.len().checked_sub(at).ok_or(TooShort)?;
+    line.put(&mut Room { left })?;
+    let mut page = Page { output, at };
+    line.put(&mut page)?;
+    Ok(page.at)
 }
 
 // Bytes as they are.
-pub fn place(bytes: &[u8], output: &mut [u8], at: usize) -> Placed
+pub fn place(bytes: &[u8], output: &mut [u8], at: usize) -> Result<usize, TooShort>
     ensures answer { result ≡ placed_answer at bytes.now output.old }
     ensures output { output.new ≡ placed_after at bytes.now output.old }
 {
-    let Placed::End(_) = measure::advance(at, bytes.len(), output.len()) else {
-        return Placed::Short;
-    };
-    Placed::End(put::put_word(bytes, output, at))
+    placed(&Bytes { bytes }, output, at)
 }
 
 // set N D ASKS
-pub fn set_line(n: usize, d: usize, asks: usize, output: &mut [u8], at: usize) -> Placed
+pub fn set_line(
+    n: usize,
+    d: usize,
+    asks: usize,
+    output: &mut [u8],
+    at: usize,
+) -> Result<usize, TooShort>
     ensures answer { result ≡ placed_answer at (set_line n d asks) output.old }
     ensures output { output.new ≡ placed_after at (set_line n d asks) output.old }
 {
-    let Placed::End(_) = measure_line::set_end(n, d, asks, at, output.len()) else {
-        return Placed::Short;
-    };
-    Placed::End(put_line::put_set(n, d, asks, output, at))
+    placed(&Set { n, d, asks }, output, at)
 }
 
 // ask I refused R
-pub fn ask_refused_line(ask: usize, refusal: usize, output: &mut [u8], at: usize) -> Placed
+pub fn ask_refused_line(
+    ask: usize,
+    refusal: usize,
+    output: &mut [u8],
+    at: usize,
+) -> Result<usize, TooShort>
     ensures answer { result ≡ placed_answer at (ask_refused_line ask refusal) output.old }
     ensures output { output.new ≡ placed_after at (ask_refused_line ask refusal) output.old }
 {
-    let Placed::End(_) = measure_line::ask_refused_end(ask, refusal, at, output.len()) else {
-        return Placed::Short;
-    };
-    Placed::End(put_line::put_ask_refused(ask, refusal, output, at))
+    placed(&AskRefused { ask, refusal }, output, at)
 }
 
 // refused R
-pub fn refused_line(refusal: usize, output: &mut [u8], at: usize) -> Placed
+pub fn refused_line(refusal: usize, output: &mut [u8], at: usize) -> Result<usize, TooShort>
     ensures answer { result ≡ placed_answer at (refused_line refusal) output.old }
     ensures output { output.new ≡ placed_after at (refused_line refusal) output.old }
 {
-    let Placed::End(_) = measure_line::refused_end(refusal, at, output.len()) else {
-        return Placed::Short;
-    };
-    Placed::End(put_line::put_refused(refusal, output, at))
+    placed(&Refused { refusal }, output, at)
 }
 
 // ask I found F seen S walked W
-pub fn found_line(
-    ask: usize,
-    found: usize,
-    seen: usize,
-    walked: usize,
-    output: &mut [u8],
-    at: usize,
-) -> Placed
-    ensures answer { result ≡ placed_answer at (found_line ask found seen walked) output.old }
-    ensures output { output.new ≡ placed_after at (found_line ask found seen walked) output.old }
+pub fn found_line(counts: Found, output: &mut [u8], at: usize) -> Result<usize, TooShort>
+    ensures answer { result ≡ placed_answer at (found_line counts.ask counts.found counts.seen counts.walked) output.old }
+    ensures output { output.new ≡ placed_after at (found_line counts.ask counts.found counts.seen counts.walked) output.old }
 {
-    let Placed::End(_) = measure_line::found_end(ask, found, seen, walked, at, output.len()) else {
-        return Placed::Short;
-    };
-    Placed::End(put_line::put_found(ask, found, seen, walked, output, at))
+    placed(&counts, output, at)
 }
 
-// near ID D ID D ..
-pub fn near_line(ids: &[u16], distances: &[u32], output: &mut [u8], at: usize) -> Placed
+// near ID D ID D .. The ids and the distances are two slices because the C interface of the search lends two.
+pub fn near_line(
+    ids: &[u16],
+    distances: &[u32],
+    output: &mut [u8],
+    at: usize,
+) -> Result<usize, TooShort>
     ensures answer { result ≡ placed_answer at (near_line ids.now distances.now) output.old }
     ensures output { output.new ≡ placed_after at (near_line ids.now distances.now) output.old }
 {
-    let Placed::End(_) = measure_line::near_end(ids, distances, at, output.len()) else {
-        return Placed::Short;
-    };
-    Placed::End(put_line::put_near(ids, distances, output, at))
+    placed(&Near { ids, distances }, output, at)
 }
 
 // trail ID ID ..
-pub fn trail_line(ids: &[u16], output: &mut [u8], at: usize) -> Placed
+pub fn trail_line(ids: &[u16], output: &mut [u8], at: usize) -> Result<usize, TooShort>
     ensures answer { result ≡ placed_answer at (trail_line ids.now) output.old }
     ensures output { output.new ≡ placed_after at (trail_line ids.now) output.old }
 {
-    let Placed::End(_) = measure_line::trail_end(ids, at, output.len()) else {
-        return Placed::Short;
-    };
-    Placed::End(put_line::put_trail(ids, output, at))
+    placed(&Trail { ids }, output, at)
 }
 
 // The three lines of an ask that is answered, all or none.
 pub fn answer_lines(
-    ask: usize,
-    found: usize,
-    seen: usize,
-    walked: usize,
+    counts: Found,
     ids: &[u16],
     distances: &[u32],
     trail: &[u16],
     output: &mut [u8],
     at: usize,
-) -> Placed
-    ensures answer { result ≡ placed_answer at (three_lines ask found seen walked ids.now distances.now trail.now) output.old }
-    ensures output { output.new ≡ placed_after at (three_lines ask found seen walked ids.now distances.now trail.now) output.old }
+) -> Result<usize, TooShort>
+    ensures answer { result ≡ placed_answer at (three_lines counts.ask counts.found counts.seen counts.walked ids.now distances.now trail.now) output.old }
+    ensures output { output.new ≡ placed_after at (three_lines counts.ask counts.found counts.seen counts.walked ids.now distances.now trail.now) output.old }
 {
-    let Placed::End(_) = measure_line::three_end(
-        ask,
-        found,
-        seen,
-        walked,
-        ids,
-        distances,
-        trail,
-        at,
-        output.len(),
-    ) else {
-        return Placed::Short;
+    let answer = Answer {
+        found: counts,
+        near: Near { ids, distances },
+        trail: Trail { ids: trail },
     };
-    Placed::End(put_line::put_three(ask, found, seen, walked, ids, distances, trail, output, at))
+    placed(&answer, output, at)
 }

@@ -1,54 +1,34 @@
 // Reads one sheet from standard input and writes its lines.
 #![tactic(auto)]
 
-ghost use Rattle.std.specs.Prelude.{◌≤◌, length};
-ghost use Rattle.magpiehinge.specs.Reading.{length_of};
+ghost use Rattle.std.specs.Prelude.{◌≤◌, length, IfOk};
 
-use lines::Placed;
+use std::io;
 use std::io::{Print, Read, Stdin};
 
-// What was read: a read failed, or the bytes up to the end of the input or of the buffer.
-#[derive(Clone, Copy)]
-enum Input {
-    Failed,
-    Length(usize),
-}
-
-// One read, of what has arrived.
-fn read_some(input: &mut Stdin, buffer: &mut [u8]) -> Input
-    ensures { length_of result ≤ length buffer.new }
-{
-    match input.read(buffer) {
-        Ok(got) => Input::Length(got),
-        Err(_) => Input::Failed,
-    }
-}
-
-// Reads until the input ends or the buffer is full, however the bytes arrive.
-fn read_all(input: &mut Stdin, buffer: &mut [u8]) -> Input
-    ensures { length_of result ≤ length buffer.new }
+// Reads until the input ends or the buffer is full, however the bytes arrive, and answers how many there were.
+fn read_all(input: &mut Stdin, buffer: &mut [u8]) -> io::Result<usize>
+    ensures { IfOk result (λ n. n ≤ length buffer.new) }
 {
     let mut done = 0;
     while done < buffer.len() {
-        let Input::Length(more) = read_some(input, &mut buffer[done..]) else {
-            return Input::Failed;
-        };
+        let more = input.read(&mut buffer[done..])?;
         if more == 0 {
-            return Input::Length(done);
+            break;
         }
         done += more;
     }
-    Input::Length(done)
+    Ok(done)
 }
 
-// The largest sheet has 16,895 bytes: of more than that, one byte shows that the sheet is too long.
+// The largest sheet has 16,895 bytes: of more than that, one byte shows that the sheet is too long. A read or a write that fails is not reported.
 fn main(rt: HostRuntime) {
     let mut sheet = [0u8; 16896];
-    let Input::Length(length) = read_all(&mut rt.stdin(), &mut sheet) else {
+    let Ok(length) = read_all(&mut rt.stdin(), &mut sheet) else {
         return;
     };
     let mut output = report::page();
-    let Placed::End(end) = report::print(&sheet[..length], &mut output, 0) else {
+    let Ok(end) = report::print(&sheet[..length], &mut output, 0) else {
         return;
     };
     let _ = rt.write_all(&output[..end]);

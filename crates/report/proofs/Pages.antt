@@ -7,16 +7,16 @@ use mathlib.Core.List.{List, [], ◌++◌}
 use lib.ListN.{length, take, drop, length-append}
 use lib.Seq.{take_at}
 use Rattle.laws.proofs.Tests.{le_or_lt}
-use Rattle.lines.specs.declared.Placed.{Placed}
-use Rattle.lines.specs.declared.Placed.TheVariants.{Short, End}
-use Rattle.lines.specs.Placing.{ending, put, placed_answer, placed_after}
+use Rattle.std.specs.Prelude.{Result, Ok, Err}
+use Rattle.lines.specs.declared.TooShort.{TooShort}
+use Rattle.lines.specs.Placing.{too_short, ending, put, placed_answer, placed_after}
 use Rattle.lines.proofs.Puts.{length-put, put-none, put-append}
 use Rattle.lines.proofs.Ends.{ends_in, ended, past, ends_then, short_then, after_in, after_past}
 use Rattle.report.specs.Pages.{Paged}
 
 -- bytes by another name
 pub placed_as :
-    (at : ℕ) (l m old : List ℕ) {new : List ℕ} {r : Placed} → l ≡ m → (r ≡ placed_answer at l old) × (new ≡ placed_after at l old) →
+    (at : ℕ) (l m old : List ℕ) {new : List ℕ} {r : Result ℕ TooShort} → l ≡ m → (r ≡ placed_answer at l old) × (new ≡ placed_after at l old) →
     (r ≡ placed_answer at m old) × (new ≡ placed_after at m old)
 placed_as at l m old e h = (h.0 ∙ ap (λ (x : List ℕ). placed_answer at x old) e, h.1 ∙ ap (λ (x : List ℕ). placed_after at x old) e)
 
@@ -28,7 +28,7 @@ after-size at l old =
     (le_or_lt (at + length l) (length old))
 
 -- what is placed is on the page
-pub paged : (at : ℕ) (l m old : List ℕ) {new : List ℕ} {r : Placed}
+pub paged : (at : ℕ) (l m old : List ℕ) {new : List ℕ} {r : Result ℕ TooShort}
     → l ≡ m
     → (r ≡ placed_answer at l old) × (new ≡ placed_after at l old)
     → Paged at m old new r
@@ -40,18 +40,18 @@ paged at l m old e h = record {
 }
 
 -- nothing is on the page
-pub paged_none : (at : ℕ) (old : List ℕ) → at ≤ length old → Paged at [] old old (End at)
+pub paged_none : (at : ℕ) (old : List ℕ) → at ≤ length old → Paged at [] old old (Ok at)
 paged_none at old h =
     let e : at + 0 ≡ at = omega arith in
     record {
-      answers = ap End (sym e) ∙ sym (ends_in at 0 (length old) (omega arith));
+      answers = ap Ok (sym e) ∙ sym (ends_in at 0 (length old) (omega arith));
       holds = λ k. sym (put-none at old);
       size = refl;
     }
 
 -- bytes, and then more
-pub paged_more : {at next : ℕ} {a b old mid new : List ℕ} {r : Placed}
-    → Paged at a old mid (End next)
+pub paged_more : {at next : ℕ} {a b old mid new : List ℕ} {r : Result ℕ TooShort}
+    → Paged at a old mid (Ok next)
     → Paged next b mid new r
     → Paged at (a ++ b) old new r
 paged_more {at} {next} {a} {b} {old} {mid} {new} {r} x y =
@@ -65,7 +65,7 @@ paged_more {at} {next} {a} {b} {old} {mid} {new} {r} x y =
     }
 
 -- what does not end on the page does not with more after it
-pub paged_short : {at : ℕ} {a old mid : List ℕ} → Paged at a old mid Short → (b : List ℕ) → Paged at (a ++ b) old mid Short
+pub paged_short : {at : ℕ} {a old mid : List ℕ} → Paged at a old mid (Err too_short) → (b : List ℕ) → Paged at (a ++ b) old mid (Err too_short)
 paged_short {at} {a} {old} {mid} x b =
     let p = past at (length a) (length old) x.answers in
     let l = length-append a b in
@@ -75,7 +75,7 @@ paged_short {at} {a} {old} {mid} x b =
       size = x.size;
     }
 
-pub paged_as : {at : ℕ} {old new : List ℕ} {r : Placed} (l m : List ℕ) → l ≡ m → Paged at l old new r → Paged at m old new r
+pub paged_as : {at : ℕ} {old new : List ℕ} {r : Result ℕ TooShort} (l m : List ℕ) → l ≡ m → Paged at l old new r → Paged at m old new r
 paged_as {at} {old} {new} {r} l m e x = record {
   answers = x.answers ∙ ap (λ (y : List ℕ). ending at (length y) (length old)) e;
   holds = λ k. x.holds (rw e k) ∙ ap (λ (y : List ℕ). put at y old) e;
@@ -83,7 +83,7 @@ paged_as {at} {old} {new} {r} l m e x = record {
 }
 
 -- what stands at the front of a page
-pub paged_front : {l old new : List ℕ} {next : ℕ} → Paged 0 l old new (End next) → (next ≤ length new) × (take next new ≡ l)
+pub paged_front : {l old new : List ℕ} {next : ℕ} → Paged 0 l old new (Ok next) → (next ≤ length new) × (take next new ≡ l)
 unfolding put
 paged_front {l} {old} {new} {next} x =
     let f = ended 0 (length l) (length old) x.answers in
@@ -91,5 +91,5 @@ paged_front {l} {old} {new} {next} x =
     (omega (arith, x.size, f.0, f.1), ap (take next) (x.holds f.0) ∙ take_at l (drop (0 + length l) old) next (sym n))
 
 -- the answer by another name
-pub paged_told : {at : ℕ} {l old new : List ℕ} {r r' : Placed} → r ≡ r' → Paged at l old new r → Paged at l old new r'
-paged_told {at} {l} {old} {new} e x = subst (λ (p : Placed). Paged at l old new p) e x
+pub paged_told : {at : ℕ} {l old new : List ℕ} {r r' : Result ℕ TooShort} → r ≡ r' → Paged at l old new r → Paged at l old new r'
+paged_told {at} {l} {old} {new} e x = subst (λ (p : Result ℕ TooShort). Paged at l old new p) e x

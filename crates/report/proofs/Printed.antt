@@ -13,8 +13,12 @@ use Rattle.rules.specs.Lines.{set_line, refused_line}
 use Rattle.rules.specs.Program.{asks_lines, printed}
 use Rattle.laws.proofs.Fields.{points-small, coords-small}
 use Rattle.laws.proofs.Refusals.{outcome-none, outcome_value}
-use Rattle.lines.specs.declared.Placed.{Placed}
-use Rattle.lines.specs.declared.Placed.TheVariants.{Short, End}
+use Rattle.std.specs.Prelude.{Result, Ok, Err}
+use Rattle.space.specs.declared.refusal.Refusal.{Refusal}
+use Rattle.sheet.specs.declared.Head.{Head}
+use Rattle.sheet.specs.Answers.{head_told}
+use Rattle.lines.specs.declared.TooShort.{TooShort}
+use Rattle.lines.specs.Placing.{too_short}
 use Rattle.report.specs.Pages.{Paged, SheetGiven}
 use Rattle.report.proofs.Pages.{paged_more, paged_short, paged_as}
 
@@ -59,18 +63,22 @@ module _ (ys : List ℕ) where
         few-coordinates = rw ed (coords-small ys).1;
       }
 
+-- the same by what the header's reader answers
+pub read_head : {ys : List ℕ} {r : Result Head Refusal} {h : Head} → r ≡ Ok h → head_told r ≡ header_answer ys → Headed ys h.n h.d h.asks
+read_head {ys} {h = h} e told = sheet_headed ys h.n h.d h.c h.asks (ap head_told (sym e) ∙ told)
+
 -- the `set` line, and then the asks' lines on the set's own table
 pub whole_set :
-    {ys table old mid new : List ℕ} {n d asks next : ℕ} {r : Placed} → SheetGiven ys n d (vectors_of ys) → asks ≡ ask_count ys →
-    table ≡ table_of (apart (coords ys) (vectors_of ys)) (points ys) → Paged 0 (set_line n d asks) old mid (End next) →
+    {ys table old mid new : List ℕ} {n d asks next : ℕ} {r : Result ℕ TooShort} → SheetGiven ys n d (vectors_of ys) → asks ≡ ask_count ys →
+    table ≡ table_of (apart (coords ys) (vectors_of ys)) (points ys) → Paged 0 (set_line n d asks) old mid (Ok next) →
     Paged next (asks_lines ys table asks) mid new r → Paged 0 (printed ys) old new r
 whole_set {ys} {table} {n = n} {d = d} {asks = asks} h a t x y =
     let same : set_line n d asks ++ asks_lines ys table asks ≡ printed ys = rw (h.n-is, h.d-is, a, t) (sym (printed-set ys h.readable)) in
     paged_as (set_line n d asks ++ asks_lines ys table asks) (printed ys) same (paged_more x y)
 
 pub whole-short :
-    {ys old mid : List ℕ} {n d asks : ℕ} → SheetGiven ys n d (vectors_of ys) → asks ≡ ask_count ys → Paged 0 (set_line n d asks) old mid Short →
-    Paged 0 (printed ys) old mid Short
+    {ys old mid : List ℕ} {n d asks : ℕ} → SheetGiven ys n d (vectors_of ys) → asks ≡ ask_count ys → Paged 0 (set_line n d asks) old mid (Err too_short) →
+    Paged 0 (printed ys) old mid (Err too_short)
 whole-short {ys} {n = n} {d = d} {asks = asks} h a x =
     let table = table_of (apart (coords ys) (vectors_of ys)) (points ys) in
     let same : set_line n d asks ++ asks_lines ys table asks ≡ printed ys = rw (h.n-is, h.d-is, a) (sym (printed-set ys h.readable)) in

@@ -21,8 +21,8 @@ use Rattle.laws.proofs.Keyed.{keyed_ordered}
 use Rattle.laws.proofs.Nearest.{firsts-nearest}
 use Rattle.laws.proofs.Search.{run_sound}
 use Rattle.search.proofs.Finish.{search_ok}
-use Rattle.lines.specs.declared.Placed.TheVariants.{Short}
-use Rattle.lines.specs.Placing.{three_lines}
+use Rattle.std.specs.Prelude.{Err}
+use Rattle.lines.specs.Placing.{too_short, three_lines}
 use Rattle.lines.proofs.Ends.{past}
 use Rattle.lines.proofs.Lengths.{set-length, refused-length, ask-refused-length, found-length, near_length, trail-length, three-length}
 use Rattle.report.specs.Pages.{Paged}
@@ -84,7 +84,7 @@ few a e =
     let near = firsts-nearest (order_of a) a.n (keyed_ordered (farness a) a.n ok.starts.asked.few-points) a.k (searched a).seen in
     let sound = run_sound a.n (order_of a) (edges_of a) a.width a.n (eqb a.start) in
     record {
-      near_few = omega (arith, near.many, ok.ids_room);
+      near_few = omega (arith, near.many, ok.rooms.ids_room);
       near_small = λ y o. omega (arith, (near.each y o).0, ok.starts.asked.few-points);
       seen_few = omega (arith, count_le a.n (searched a).seen, ok.starts.asked.few-points);
       trail-few = omega (arith, sound.1, count_le a.n (on (searched a).trail), ok.starts.asked.few-points);
@@ -158,5 +158,5 @@ printed-by ys (suc r) e l =
 pub printed_most : (ys : List ℕ) → length (printed ys) ≤ 270000
 printed_most ys = printed-by ys (sheet_refusal ys) refl (sheet_refusal_most ys)
 
-pub never_short : (ys : List ℕ) {old new : List ℕ} → length old ≡ 270000 → Paged 0 (printed ys) old new Short → ⊥
+pub never_short : (ys : List ℕ) {old new : List ℕ} → length old ≡ 270000 → Paged 0 (printed ys) old new (Err too_short) → ⊥
 never_short ys {old} l x = omega (arith, past 0 (length (printed ys)) (length old) x.answers, printed_most ys)

@@ -21,8 +21,9 @@ use Rattle.laws.proofs.Tests.{le_or_lt}
 use Rattle.laws.proofs.Values.{length-values}
 use Rattle.laws.proofs.Fields.{points-small, coords-small}
 use Rattle.laws.proofs.Refusals.{else_none, skipped, outcome-gives, outcome_value, after_new}
-use Rattle.lines.specs.declared.Placed.{Placed}
-use Rattle.lines.specs.declared.Placed.TheVariants.{Short, End}
+use Rattle.std.specs.Prelude.{Result, Ok, Err}
+use Rattle.lines.specs.declared.TooShort.{TooShort}
+use Rattle.lines.specs.Placing.{too_short}
 use Rattle.report.specs.Pages.{Paged, SheetGiven}
 use Rattle.report.proofs.Pages.{paged_none, paged_more, paged_short, paged_told}
 
@@ -39,6 +40,14 @@ module _ (ys : List ℕ) where
   pub vectors-long : length (vectors_of ys) ≡ points ys * coords ys
   unfolding vectors_of
   vectors-long = length-values (width ys) (points ys * coords ys) (drop 24 (unpacked ys))
+
+-- the limits of a sheet's set
+module _ {ys : List ℕ} {n d : ℕ} {vectors : List ℤ} (h : SheetGiven ys n d vectors) where
+  pub few-points : n ≤ 128
+  few-points = rw h.n-is (points-small ys).1
+
+  pub few-coordinates : d ≤ 64
+  few-coordinates = rw h.d-is (coords-small ys).1
 
 -- ---- one ask
 
@@ -76,25 +85,25 @@ module _ {ys : List ℕ} {n d : ℕ} {vectors : List ℤ} (h : SheetGiven ys n d
 -- ---- all asks
 
 module _ (ys table : List ℕ) where
-  pub asks_none : (at : ℕ) (old : List ℕ) → at ≤ length old → Paged at (asks_lines ys table 0) old old (End at)
+  pub asks_none : (at : ℕ) (old : List ℕ) → at ≤ length old → Paged at (asks_lines ys table 0) old old (Ok at)
   unfolding asks_lines
   asks_none at old l = paged_none at old l
 
   pub asks-next :
-      (i : ℕ) {at end : ℕ} {old mid new : List ℕ} {r r' : Placed} → Paged at (asks_lines ys table i) old mid (End end) →
+      (i : ℕ) {at end : ℕ} {old mid new : List ℕ} {r r' : Result ℕ TooShort} → Paged at (asks_lines ys table i) old mid (Ok end) →
       Paged end (lines_of i (ask_of ys table i)) mid new r → r ≡ r' → Paged at (asks_lines ys table (i + 1)) old new r'
   unfolding asks_lines
   asks-next i x y e = rw add-one (paged_told e (paged_more x y))
 
   pub asks-short :
-      (asks j : ℕ) {at : ℕ} {old mid : List ℕ} → j ≤ asks → Paged at (asks_lines ys table j) old mid Short →
-      Paged at (asks_lines ys table asks) old mid Short
+      (asks j : ℕ) {at : ℕ} {old mid : List ℕ} → j ≤ asks → Paged at (asks_lines ys table j) old mid (Err too_short) →
+      Paged at (asks_lines ys table asks) old mid (Err too_short)
   unfolding asks_lines
-  asks-short zero j {at} {old} {mid} l x = let e : j ≡ 0 = omega arith in subst (λ (m : ℕ). Paged at (asks_lines ys table m) old mid Short) e x
+  asks-short zero j {at} {old} {mid} l x = let e : j ≡ 0 = omega arith in subst (λ (m : ℕ). Paged at (asks_lines ys table m) old mid (Err too_short)) e x
   asks-short (suc asks) j {at} {old} {mid} l x =
       ⊎_elim
       (λ (h : j ≤ asks). paged_short (asks-short asks j h x) (lines_of asks (ask_of ys table asks)))
-      (λ (h : asks < j). let e : j ≡ suc asks = omega arith in subst (λ (m : ℕ). Paged at (asks_lines ys table m) old mid Short) e x)
+      (λ (h : asks < j). let e : j ≡ suc asks = omega arith in subst (λ (m : ℕ). Paged at (asks_lines ys table m) old mid (Err too_short)) e x)
       (le_or_lt j asks)
 
 -- ---- the set
@@ -131,13 +140,13 @@ module _ {ys : List ℕ} {n d : ℕ} {vectors : List ℤ} (h : SheetGiven ys n d
       n1 = rw h.n-is (points-small ys).0
 
       n2 : n ≤ 128
-      n2 = rw h.n-is (points-small ys).1
+      n2 = few-points h
 
       d1 : 1 ≤ d
       d1 = rw h.d-is (coords-small ys).0
 
       d2 : d ≤ 64
-      d2 = rw h.d-is (coords-small ys).1
+      d2 = few-coordinates h
 
       v : length vectors ≡ n * d
       v = rw (h.n-is, h.d-is, h.vectors_are) (vectors-long ys)

@@ -2,44 +2,26 @@
 ghost use Rattle.std.specs.Prelude.{◌≡◌, ◌≤◌, length, take};
 ghost use Rattle.lines.specs.Placing.{placed_answer, placed_after, three_lines};
 
-use lines::Placed;
-
-pub(crate) fn wide(x: u16) -> usize
-    ensures { result ≡ x }
-{
-    x as usize
-}
-
-pub(crate) fn wide8(x: u8) -> usize
-    ensures { result ≡ x }
-{
-    x as usize
-}
+use lines::{Found, TooShort};
 
 // The three lines of an ask that is answered, from buffers whose first cells hold the answer.
 pub(crate) fn found_lines(
-    ask: usize,
-    found: usize,
-    seen: usize,
-    walked: usize,
+    counts: Found,
     ids: &[u16],
     distances: &[u32],
     trail: &[u16],
     output: &mut [u8],
     at: usize,
-) -> Placed
-    requires { (found ≤ length ids.now) × (found ≤ length distances.now) × (walked ≤ length trail.now) }
-    ensures answer { result ≡ placed_answer at (three_lines ask found seen walked (take found ids.now) (take found distances.now) (take walked trail.now)) output.old }
-    ensures output { output.new ≡ placed_after at (three_lines ask found seen walked (take found ids.now) (take found distances.now) (take walked trail.now)) output.old }
+) -> Result<usize, TooShort>
+    requires { (counts.found ≤ length ids.now) × (counts.found ≤ length distances.now) × (counts.walked ≤ length trail.now) }
+    ensures answer { result ≡ placed_answer at (three_lines counts.ask counts.found counts.seen counts.walked (take counts.found ids.now) (take counts.found distances.now) (take counts.walked trail.now)) output.old }
+    ensures output { output.new ≡ placed_after at (three_lines counts.ask counts.found counts.seen counts.walked (take counts.found ids.now) (take counts.found distances.now) (take counts.walked trail.now)) output.old }
 {
     lines::answer_lines(
-        ask,
-        found,
-        seen,
-        walked,
-        &ids[..found],
-        &distances[..found],
-        &trail[..walked],
+        counts,
+        &ids[..counts.found],
+        &distances[..counts.found],
+        &trail[..counts.walked],
         output,
         at,
     )

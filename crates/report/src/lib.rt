@@ -5,67 +5,41 @@ mod found;
 mod whole;
 
 ghost use Rattle.std.specs.Prelude.{◌≡◌, length, replicate};
-ghost use Rattle.rules.specs.Entries.{ask};
 ghost use Rattle.rules.specs.Program.{lines_of, printed};
+ghost use Rattle.search.specs.Answer.{asked};
 ghost use Rattle.lines.specs.Placing.{placed_answer, placed_after};
 
-use lines::Placed;
-use search::Searched;
+use lines::{Found, TooShort};
+use search::Ask;
 
-// The lines of an ask, from what was read: the set and its table, the query and the ask's four numbers. The buffers of the search have 128 cells, as
-// many as a set has points and as a width allows, so that none is too short.
+// The lines of an ask, whose number is that of its place in a sheet. The buffers of the search have 128 cells, as many as a set has points and as a width
+// allows, so that none is too short.
 pub fn ask_lines(
     number: u16,
-    n: usize,
-    d: usize,
-    vectors: &[i8],
-    table: &[u16],
-    query: &[i8],
-    start: u16,
-    threshold: u16,
-    width: u16,
-    k: u16,
+    ask: &Ask<'_>,
     output: &mut [u8],
     at: usize,
-) -> Placed
-    ensures answer { result ≡ placed_answer at (lines_of number (ask n d vectors.now table.now query.now start threshold width k)) output.old }
-    ensures output { output.new ≡ placed_after at (lines_of number (ask n d vectors.now table.now query.now start threshold width k)) output.old }
+) -> Result<usize, TooShort>
+    ensures answer { result ≡ placed_answer at (lines_of number (asked ask.now)) output.old }
+    ensures output { output.new ≡ placed_after at (lines_of number (asked ask.now)) output.old }
 {
     let mut ids = [0u16; 128];
     let mut distances = [0u32; 128];
     let mut trail = [0u16; 128];
-    let searched = search::search(
-        n,
-        d,
-        vectors,
-        table,
-        query,
-        start,
-        threshold,
-        width,
-        k,
-        &mut ids,
-        &mut distances,
-        &mut trail,
-    );
-    match searched {
-        Searched::Refused(refusal) => lines::ask_refused_line(
-            found::wide(number),
-            found::wide8(refusal),
-            output,
-            at,
-        ),
-        Searched::Done(counts) => found::found_lines(
-            found::wide(number),
-            counts.found,
-            counts.seen,
-            counts.walked,
-            &ids,
-            &distances,
-            &trail,
-            output,
-            at,
-        ),
+    let ask_number = usize::from(number);
+    match search::search(ask, &mut ids, &mut distances, &mut trail) {
+        Ok(counts) => {
+            let counts = Found {
+                ask: ask_number,
+                found: counts.found,
+                seen: counts.seen,
+                walked: counts.walked,
+            };
+            found::found_lines(counts, &ids, &distances, &trail, output, at)
+        }
+        Err(refusal) => {
+            lines::ask_refused_line(ask_number, usize::from(u8::from(refusal)), output, at)
+        }
     }
 }
 
@@ -78,13 +52,11 @@ pub fn page() -> [u8; 270000]
 }
 
 // All that the program prints for a sheet. It is put together on a page first, so that an output that is too short keeps all it held.
-pub fn print(sheet: &[u8], output: &mut [u8], at: usize) -> Placed
+pub fn print(sheet: &[u8], output: &mut [u8], at: usize) -> Result<usize, TooShort>
     ensures answer { result ≡ placed_answer at (printed sheet.now) output.old }
     ensures output { output.new ≡ placed_after at (printed sheet.now) output.old }
 {
     let mut lines = page();
-    let Placed::End(end) = whole::fill(sheet, &mut lines) else {
-        return Placed::Short;
-    };
+    let end = whole::fill(sheet, &mut lines)?;
     lines::place(&lines[..end], output, at)
 }

@@ -5,117 +5,115 @@ ghost use Rattle.rules.specs.Program.{ask_of, lines_of, asks_lines, printed};
 ghost use Rattle.report.specs.Pages.{Paged, SheetGiven};
 
 use crate::ask_lines;
-use crate::found::wide8;
-use lines::Placed;
-use sheet::{Asked, Headed};
+use lines::TooShort;
+use search::Ask;
+use sheet::Head;
+use space::{Question, Set};
 
-// The lines of one ask of a sheet. The query's cells are lent.
-fn sheet_ask(
-    sheet: &[u8],
-    number: u16,
-    n: usize,
-    d: usize,
-    vectors: &[i8],
-    table: &[u16],
-    query: &mut [i8],
-    page: &mut [u8],
-    at: usize,
-) -> Placed
-    requires sheet_given { SheetGiven sheet.now n d vectors.now }
-    requires number_bound { (number < ask_count sheet.now) × (length query.old ≡ d) }
-    ensures { Paged at (lines_of number (ask_of sheet.now table.now number)) page.old page.new result }
-{
-    let asked = sheet::ask(sheet, number, query);
-    match asked {
-        Asked::Refused(_) => Placed::Short,
-        Asked::Numbers {
-            start,
-            width,
-            k,
-            threshold,
-        } => ask_lines(
-            number, n, d, vectors, table, query, start, threshold, width, k, page, at,
-        ),
-    }
+// A sheet that is not refused, with what was read of it, and a table of its set.
+#[derive(Clone, Copy)]
+struct Held<'a> {
+    sheet: &'a [u8],
+    head: Head,
+    vectors: &'a [i8],
+    table: &'a [u16],
+    ghost given: { SheetGiven sheet.now head.n head.d vectors.now },
+    ghost asks_are: { head.asks ≡ ask_count sheet.now },
 }
 
-// The lines of all asks of a sheet, from a place on.
-fn asks_lines(
-    sheet: &[u8],
-    asks: usize,
-    n: usize,
-    d: usize,
-    vectors: &[i8],
-    table: &[u16],
-    query: &mut [i8],
-    page: &mut [u8],
-    at: usize,
-) -> Placed
-    requires sheet_given { SheetGiven sheet.now n d vectors.now }
-    requires asks_value { (asks ≡ ask_count sheet.now) × (asks ≤ 127) × (length query.old ≡ d) × (at ≤ length page.old) }
-    ensures { Paged at (asks_lines sheet.now table.now asks) page.old page.new result }
-{
-    let mut end = at;
-    let mut i = 0;
-    while i < asks {
-        let Placed::End(next) = sheet_ask(sheet, i as u16, n, d, vectors, table, query, page, end)
-        else {
-            return Placed::Short;
+impl Held<'_> {
+    // The lines of one ask.
+    fn ask_lines(&self, number: u16, page: &mut [u8], at: usize) -> Result<usize, TooShort>
+        requires { number < self.now.head.asks }
+        ensures { Paged at (lines_of number (ask_of self.now.sheet.now self.now.table.now number)) page.old page.new result }
+    {
+        let head = self.head;
+        let mut cells = [0i8; 64];
+        let query = &mut cells[..head.d];
+        let Ok(numbers) = sheet::ask(self.sheet, number, query) else {
+            return Err(TooShort);
         };
-        end = next;
-        i += 1;
+        let set = Set {
+            n: head.n,
+            d: head.d,
+            vectors: self.vectors,
+        };
+        let question = Question {
+            set,
+            table: self.table,
+            query,
+            threshold: numbers.threshold,
+        };
+        let ask = Ask {
+            question,
+            start: numbers.start,
+            width: numbers.width,
+            k: numbers.k,
+        };
+        ask_lines(number, &ask, page, at)
     }
-    Placed::End(end)
+
+    // The lines of all asks, from a place on.
+    fn asks_lines(&self, page: &mut [u8], at: usize) -> Result<usize, TooShort>
+        requires { at ≤ length page.old }
+        ensures { Paged at (asks_lines self.now.sheet.now self.now.table.now self.now.head.asks) page.old page.new result }
+    {
+        let mut end = at;
+        for number in 0..self.head.asks {
+            end = self.ask_lines(number as u16, page, end)?;
+        }
+        Ok(end)
+    }
 }
 
-// All the lines of a sheet that is not refused. The cells of the vectors, of the table and of a query are lent.
+// All the lines of a sheet that is not refused. The cells of the vectors and of the table are lent, as many as they need.
 fn set_lines(
     sheet: &[u8],
-    n: usize,
-    d: usize,
-    asks: usize,
+    head: Head,
     vectors: &mut [i8],
     table: &mut [u16],
-    query: &mut [i8],
     page: &mut [u8],
-) -> Placed
-    requires sheet_given { SheetGiven sheet.now n d (vectors_of sheet.now) }
-    requires asks_value { (asks ≡ ask_count sheet.now) × (length vectors.old ≡ n * d) × (length table.old ≡ n * n) × (length query.old ≡ d) }
+) -> Result<usize, TooShort>
+    requires given { SheetGiven sheet.now head.n head.d (vectors_of sheet.now) × (head.asks ≡ ask_count sheet.now) }
+    requires room { (length vectors.old ≡ head.n * head.d) × (length table.old ≡ head.n * head.n) }
     ensures { Paged 0 (printed sheet.now) page.old page.new result }
 {
-    sheet::vectors(sheet, vectors);
-    table::build(n, d, vectors, table);
-    let Placed::End(first) = lines::set_line(n, d, asks, page, 0) else {
-        return Placed::Short;
+    // Neither is refused: the header was taken, and the cells are as many as they need.
+    let _ = sheet::vectors(sheet, vectors);
+    let set = Set {
+        n: head.n,
+        d: head.d,
+        vectors,
     };
-    asks_lines(sheet, asks, n, d, vectors, table, query, page, first)
+    let _ = table::build(&set, table);
+    let held = Held {
+        sheet,
+        head,
+        vectors,
+        table,
+    };
+    let first = lines::set_line(head.n, head.d, head.asks, page, 0)?;
+    held.asks_lines(page, first)
 }
 
 // All the lines of a sheet, refused or not.
-pub(crate) fn fill(sheet: &[u8], page: &mut [u8]) -> Placed
+pub(crate) fn fill(sheet: &[u8], page: &mut [u8]) -> Result<usize, TooShort>
     ensures { Paged 0 (printed sheet.now) page.old page.new result }
 {
-    let headed = sheet::header(sheet);
-    match headed {
-        Headed::Refused(refusal) => lines::refused_line(wide8(refusal), page, 0),
-        Headed::Holds(head) => {
+    match sheet::header(sheet) {
+        Ok(head) => {
             let mut vectors = [0i8; 8192];
             let mut table = [0u16; 16384];
-            let mut query = [0i8; 64];
-            let n = head.n;
-            let d = head.d;
-            let cells = n * d;
-            let square = n * n;
+            let cells = head.n * head.d;
+            let square = head.n * head.n;
             set_lines(
                 sheet,
-                n,
-                d,
-                head.asks,
+                head,
                 &mut vectors[..cells],
                 &mut table[..square],
-                &mut query[..d],
                 page,
             )
         }
+        Err(refusal) => lines::refused_line(usize::from(u8::from(refusal)), page, 0),
     }
 }

@@ -1,32 +1,17 @@
 -- The answer, off the line: its first keys are the keys of the first k seen ids. Assumes nothing.
-use Prim.Native.Nat.{ℕ, zero, suc, ◌≤◌, ◌<◌, min}
+use Prim.Native.Nat.{ℕ, suc, ◌≤◌, ◌<◌, min}
 use native.Mathlib.Omega.{arith}
 use mathlib.Core.Path.{◌≡◌, refl, sym, ap, ap₂, ◌∙◌}
-use mathlib.Core.Logic.{⊎_elim}
 use mathlib.Core.Bool.{Bool}
 use mathlib.Core.List.{List, [], ◌∷◌, map}
-use lib.ListN.{length, get_or, take, length-take}
-use lib.Seq.{get_or-take, take-take, take_all}
+use lib.ListN.{length, get_or, take, length-take, length-map}
+use lib.Seq.{get_or-take}
+use Rattle.std.proofs.lemmas.List.{take-map, take_min}
 use Rattle.rules.specs.Order.{keyed, count, firsts, Ordered}
-use Rattle.laws.proofs.Tests.{le_or_lt}
 use Rattle.laws.proofs.Keyed.{keyed_ordered, keyed_id, keyed_D}
 use Rattle.laws.proofs.Nearest.{firsts-nearest}
-use Rattle.laws.proofs.Line.{line_whole, line_length, whole_take, listed}
+use Rattle.laws.proofs.Line.{line_whole, whole_take, listed}
 use Rattle.search.specs.Answer.{id_of, distance_of}
-
-map-take : (f : ℕ → ℕ) (i : ℕ) (l : List ℕ) → take i (map f l) ≡ map f (take i l)
-map-take f zero l = refl
-map-take f (suc i) [] = refl
-map-take f (suc i) (x ∷ l) = ap (λ (t : List ℕ). f x ∷ t) (map-take f i l)
-
-take_min : (k : ℕ) (l : List ℕ) → take (min k (length l)) l ≡ take k l
-take_min k l =
-    ⊎_elim
-    (λ (h : k ≤ length l). let e : min k (length l) ≡ k = omega arith in rw e)
-    (λ (h : length l < k).
-    let e : min k (length l) ≡ length l = omega arith in
-    rw e (take_all (length l) l (omega arith) ∙ sym (take_all k l (omega arith))))
-    (le_or_lt k (length l))
 
 module _ (D : ℕ → ℕ) where
   ids_back : (l : List ℕ) → ((i : ℕ) → i < length l → get_or l i 0 < 128) → map id_of (map (keyed D) l) ≡ l
@@ -63,13 +48,12 @@ module _ (D : ℕ → ℕ) where
     pub found-is : (seen found : ℕ) → seen ≡ count n p → found ≡ min k seen → found ≡ length near
     found-is seen found s f = f ∙ ap (min k) s ∙ sym (firsts-nearest (keyed D) n ordered k p).many
 
-    module _ (line : List ℕ) (seen found : ℕ) (s : seen ≡ count n p) (f : found ≡ min k seen) (line_is : take seen line ≡ map (keyed D) all) where
+    module _ (line : List ℕ) (found : ℕ) (f : found ≡ min k (length line)) (line_is : line ≡ map (keyed D) all) where
       front : take found line ≡ map (keyed D) near
       front =
-          let len : length all ≡ seen = line_length (keyed D) n ordered p ∙ sym s in
-          sym (take-take found seen line (omega arith))
-          ∙ ap (take found) line_is
-          ∙ map-take (keyed D) found all
+          let len : length all ≡ length line = sym (ap length line_is ∙ length-map all (keyed D)) in
+          ap (take found) line_is
+          ∙ take-map (keyed D) found all
           ∙ ap (map (keyed D)) (ap (λ (j : ℕ). take j all) (f ∙ ap (min k) (sym len)) ∙ take_min k all ∙ sym taken)
 
       pub ids_are : map id_of (take found line) ≡ near

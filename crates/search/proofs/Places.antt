@@ -1,67 +1,15 @@
--- One round of each loop over the line, on plain values. Assumes nothing.
-use Prim.Native.Nat.{ℕ, suc, ◌+◌, ◌-◌, ◌%◌, ◌≤◌, ◌<◌}
-use native.Mathlib.Nat.{le_refl, lt_irrefl, eq-or-lt_of_le}
+-- A key in its place: in a line, and behind a whole line that a push made longer. Assumes nothing.
+use Prim.Native.Nat.{ℕ, suc, ◌+◌, ◌-◌, ◌≤◌, ◌<◌}
+use native.Mathlib.Nat.{lt_irrefl, eq-or-lt_of_le}
 use native.Mathlib.Omega.{arith}
-use native.Mathlib.Numerals.{add-one}
-use mathlib.Core.Path.{◌≡◌, refl, sym, ap, ◌∙◌}
+use mathlib.Core.Path.{◌≡◌, sym, ap, ◌∙◌, subst}
 use mathlib.Core.Logic.{⊎_elim}
-use mathlib.Core.Bool.{true, false}
-use mathlib.Core.List.{List, ◌∷◌, ◌++◌}
+use mathlib.Core.List.{List, [], ◌∷◌, ◌++◌}
 use lib.ListN.{length, get_or, take, drop, set, length-set, length-take, length-drop, length-append, get_or-append}
-use lib.Seq.{get_or-set_same, get_or-set_other, get_or-take, get_or-drop, get_or_at, get_or-append-add, ext_get_or}
-use Rattle.laws.proofs.Tests.{below, le_or_lt}
-use Rattle.search.specs.Line.{waits, Moved, Shifted, Put, Opened}
-
--- ---- the place that is free
-
--- what holds while the numbers from `at` on have been moved up
-pub record Shifting (old : List ℕ) (m x at : ℕ) (new : List ℕ) : Type 0 where
-  pub within : at ≤ m
-  pub larger : (i : ℕ) → at ≤ i → i < m → x < get_or old i 0
-  pub moved : Moved old m at new
-
-pub shift_start : (line : List ℕ) (m x : ℕ) → Shifting line m x m line
-shift_start line m x = record {
-  within = le_refl m;
-  larger = λ i a b. absurd (lt_irrefl i (omega arith));
-  moved = record { size = refl; low = λ i l. refl; up = λ i a b. absurd (lt_irrefl i (omega arith)) };
-}
-
-module _ {old new : List ℕ} {m x at : ℕ} (h : Shifting old m x at new) where
-  -- the number before the free place, which is still where it was
-  pub last_kept : 0 < at → get_or new (at - 1) 0 ≡ get_or old (at - 1) 0
-  last_kept l = h.moved.low (at - 1) (omega arith)
-
-  pub shift_step : 0 < at → m < length new → x < get_or new (at - 1) 0 → (new' : List ℕ) → new' ≡ set new at (get_or new (at - 1) 0) →
-      Shifting old m x (at - 1) new'
-  shift_step l room g new' q = record {
-    within = omega (arith, h.within);
-    larger = λ i a b. ⊎_elim (λ k. h.larger i k b) (λ k. let e : i ≡ at - 1 = omega arith in rw (e, ← last_kept l) g) (le_or_lt at i);
-    moved = rw q (record {
-      size = length-set new at _ ∙ h.moved.size;
-      low = λ i k. get_or-set_other new at i _ 0 (λ s. lt_irrefl i (omega arith)) ∙ h.moved.low i (omega arith);
-      up = λ i a b.
-          ⊎_elim
-          (λ k. get_or-set_other new at (i + 1) _ 0 (λ s. lt_irrefl i (omega arith)) ∙ h.moved.up i k b)
-          (λ k.
-          let e : i ≡ at - 1 = omega arith in
-          let f : at - 1 + 1 ≡ at = omega arith in
-          rw (e, f) (get_or-set_same new at _ 0 (omega (arith, h.within)) ∙ last_kept l))
-          (le_or_lt at i);
-    });
-  }
-
-  pub shift_stop : 0 < at → get_or new (at - 1) 0 ≤ x → Shifted old m x at new
-  shift_stop l g = record {
-    slot = record { within = h.within; larger = h.larger; not-larger = λ i e. let f : i ≡ at - 1 = omega arith in rw (f, ← last_kept l) g };
-    moved = h.moved;
-  }
-
-  pub shift_front : at ≤ 0 → Shifted old m x at new
-  shift_front l = record {
-    slot = record { within = h.within; larger = h.larger; not-larger = λ i e. absurd (lt_irrefl 0 (omega arith)) };
-    moved = h.moved;
-  }
+use lib.Seq.{get_or-set_same, get_or-set_other, get_or-take, get_or-drop, get_or_at, get_or-append-add, ext_get_or, take_all}
+use Rattle.std.proofs.Math.Seq.{take-append_seam}
+use Rattle.laws.proofs.Tests.{le_or_lt}
+use Rattle.search.specs.Line.{Slot, Shifted, Put}
 
 -- ---- a key in its place
 
@@ -114,26 +62,39 @@ put-there old new new' m x r room h q = record {
         get_or-set_other new r i x 0 (λ s. lt_irrefl i (omega arith)) ∙ h.moved.low i k ∙ sym (at_low old m x r room h.slot.within i k))
         (le_or_lt r i)
 
--- ---- the first place whose id waits
+-- ---- behind a whole line
 
-pub record Passing (line flags : List ℕ) (m a at : ℕ) : Type 0 where
-  pub from : a ≤ at
-  pub within : at ≤ m
-  pub passed : (i : ℕ) → a ≤ i → i < at → waits flags (get_or line i 0 % 128) ≡ false
+pub record Entered (line : List ℕ) (x r : ℕ) (line' : List ℕ) : Type 0 where
+  pub slot : Slot line (length line) x r
+  pub keys : line' ≡ take r line ++ (x ∷ drop r line)
 
-pub pass_start : (line flags : List ℕ) (m a : ℕ) → a ≤ m → Passing line flags m a a
-pass_start line flags m a l = record { from = le_refl a; within = l; passed = λ i p q. absurd (lt_irrefl i (omega arith)) }
+pub entered : (line line' : List ℕ) (x r : ℕ) → Put (line ++ (x ∷ [])) (length (line ++ (x ∷ [])) - 1) x r line' → Entered line x r line'
+entered line line' x r p = record {
+  slot = record {
+    within = omega (arith, p.slot.within, size);
+    larger = λ i a b. rw (← front i b) (p.slot.larger i a (omega (arith, size)));
+    not-larger = λ i e. rw (← front i (omega (arith, size, p.slot.within))) (p.slot.not-larger i e);
+  };
+  keys = sym (take_all (length (line ++ (x ∷ [])) - 1 + 1) line' (omega (arith, p.size, size)))
+      ∙ p.keys
+      ∙ ap (λ (l : List ℕ). take r l ++ (x ∷ drop r l)) before;
+}
+  where
+    size : length (line ++ (x ∷ [])) ≡ length line + 1
+    size = length-append line (x ∷ [])
 
-module _ {line flags : List ℕ} {m a at : ℕ} (h : Passing line flags m a at) where
-  pub pass_step : at < m → waits flags (get_or line at 0 % 128) ≡ false → Passing line flags m a (at + 1)
-  pass_step l e = record {
-    from = omega (arith, h.from);
-    within = omega arith;
-    passed = λ i p q. ⊎_elim (λ s. rw s e) (λ k. h.passed i p k) (below (rw add-one at q));
-  }
+    front : (i : ℕ) → i < length line → get_or (line ++ (x ∷ [])) i 0 ≡ get_or line i 0
+    front i l = get_or-append line (x ∷ []) 0 i l
 
-  pub pass_open : waits flags (get_or line at 0 % 128) ≡ true → Opened line flags m a at
-  pass_open e = record { from = h.from; within = h.within; passed = h.passed; open_there = λ l. e }
+    before : take (length (line ++ (x ∷ [])) - 1) (line ++ (x ∷ [])) ≡ line
+    before = let e : length (line ++ (x ∷ [])) - 1 ≡ length line = omega (arith, size) in rw e (take-append_seam line (x ∷ []))
 
-  pub pass_none : m ≤ at → Opened line flags m a at
-  pass_none l = record { from = h.from; within = h.within; passed = h.passed; open_there = λ k. absurd (lt_irrefl at (omega arith)) }
+-- as the line is when it was put there by way of the slice that it lends
+pub written_back : {line pushed lent line' : List ℕ} {key x r : ℕ} → pushed ≡ line ++ (key ∷ []) → lent ≡ pushed → key ≡ x →
+    Put lent (length lent - 1) key r line' → Entered line x r (take (length pushed) (line' ++ drop (length line') pushed))
+written_back {line} {pushed} {lent} {line'} {key} {x} {r} p l k put =
+    let new = subst (λ (t : List ℕ). Put t (length t - 1) key r line') (l ∙ p) put in
+    let size : length line' ≡ length pushed = put.size ∙ ap length l in
+    let whole : take (length pushed) (line' ++ drop (length line') pushed) ≡ line' =
+    rw (← size) (take-append_seam line' (drop (length line') pushed)) in
+    rw (whole, ← k) (entered line line' key r new)

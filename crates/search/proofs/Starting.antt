@@ -1,76 +1,73 @@
--- The flags and the line at first, and when the start is seen. Assumes nothing.
+-- The marks and the line at first, and when the start is seen. Assumes nothing.
 use Prim.Native.Nat.{ℕ, zero, suc, ◌≤◌, ◌<◌}
 use native.Mathlib.Nat.{lt_irrefl}
 use native.Mathlib.Omega.{arith}
-use mathlib.Core.Path.{◌≡◌, refl, sym, ap, fun_ext}
+use mathlib.Core.Path.{◌≡◌, refl, sym, ap, ◌∙◌, fun_ext}
 use mathlib.Core.Logic.{⊎_elim}
-use mathlib.Core.Bool.{false}
 use mathlib.Core.Option.{none}
-use mathlib.Core.List.{List, map}
+use mathlib.Core.List.{List, [], map}
 use lib.Dec.{eqb}
 use lib.ListN.{length, get_or, set, replicate}
-use lib.Seq.{get_or-set_same, get_or-set_other}
-use borrow.Author.Tests.{eqb-true, eqb-false}
+use borrow.Author.Tests.{eqb-true, eqb-false, eq-eqb}
 use Rattle.rules.specs.Order.{first}
-use Rattle.laws.proofs.Tests.{both, never, count_none}
+use Rattle.laws.proofs.Tests.{both, never}
 use Rattle.laws.proofs.Order.{first_some, first_cases, firsts-none}
-use Rattle.search.specs.Line.{sees}
-use Rattle.search.specs.Seen.{Lined}
+use Rattle.search.specs.declared.see.Mark.{Mark}
+use Rattle.search.specs.declared.see.Mark.TheVariants.{Unseen, Waiting}
+use Rattle.search.specs.Line.{waits, sees, is_seen, is_waiting}
+use Rattle.search.specs.Rest.{reached}
+use Rattle.search.specs.Seen.{Lined, IsFresh}
+use Rattle.search.proofs.Listing.{reached_new}
+use Rattle.search.proofs.Marks.{sees-same, sees-other, waits-same, waits-other}
 
--- cells that are all 0
-pub zeros-at : (m y : ℕ) → ◌≡◌ {A = ℕ} (get_or (replicate m 0) y 0) 0
-zeros-at zero y = refl
-zeros-at (suc m) zero = refl
-zeros-at (suc m) (suc y) = zeros-at m y
+-- marks that all say that nothing is seen
+pub unseen-at : (m y : ℕ) → get_or (replicate m Unseen) y Unseen ≡ Unseen
+unseen-at zero y = refl
+unseen-at (suc m) zero = refl
+unseen-at (suc m) (suc y) = unseen-at m y
 
 -- nothing is seen
-pub nothing_seen : (n : ℕ) (key : ℕ → ℕ) (flags line : List ℕ) → length flags ≡ 128 → length line ≡ 128 →
-    ((y : ℕ) → get_or flags y 0 ≡ 0) → Lined n key flags line 0 0
-nothing_seen n key flags line lf ll z = record {
-  flags_size = lf;
-  line_size = ll;
-  many = sym (count_none n (sees flags) (λ y l t. never t (off y)));
-  keys = ap (map key) (sym (firsts-none key n n (sees flags) no_first));
+pub nothing_seen : (n : ℕ) (key : ℕ → ℕ) → Lined n key (replicate 128 Unseen) [] 0
+nothing_seen n key = record {
+  marks_size = refl;
+  keys = ap (map key) (sym (firsts-none key n n (sees (replicate 128 Unseen)) no_first));
   from_in = omega arith;
   passed = λ i l. absurd (lt_irrefl 0 (omega arith));
 }
   where
-    off : (y : ℕ) → sees flags y ≡ false
-    off y = rw (z y)
-
-    no_first : first key n (sees flags) ≡ none
+    no_first : first key n (sees (replicate 128 Unseen)) ≡ none
     no_first =
         ⊎_elim
         (λ e. e)
-        (λ f. absurd (never (first_some key n (sees flags) f.1).1 (off f.0)))
-        (first_cases key n (sees flags))
+        (λ f. absurd (never (first_some key n (sees (replicate 128 Unseen)) f.1).1 (ap is_seen (unseen-at 128 f.0))))
+        (first_cases key n (sees (replicate 128 Unseen)))
 
--- only the start is seen
-module _ (flags : List ℕ) (start : ℕ) (there : start < length flags) (z : (y : ℕ) → get_or flags y 0 ≡ 0) where
-  start_fresh : (y : ℕ) → get_or (set flags start 1) y 0 ≤ 1
+-- of the entry's own marks
+pub record Started (start : ℕ) (marks : List Mark) : Type 0 where
+  pub fresh : IsFresh marks
+  pub only : sees marks ≡ eqb start
+
+module _ (marks : List Mark) (start : ℕ) (there : start < length marks) (z : (y : ℕ) → get_or marks y Unseen ≡ Unseen) where
+  start_fresh : (y : ℕ) → waits (set marks start Waiting) y ≡ sees (set marks start Waiting) y
   start_fresh y =
       ⊎_elim
-      (λ e. let q = eqb-true y start e in rw (q, get_or-set_same flags start 1 0 there) (omega arith))
-      (λ e. rw (get_or-set_other flags start y 1 0 (eqb-false y start e), z y) (omega arith))
+      (λ e. let q = eqb-true y start e in rw q (waits-same marks start Waiting there ∙ sym (sees-same marks start Waiting there)))
+      (λ e.
+      let d = eqb-false y start e in
+      waits-other marks start Waiting y d ∙ ap is_waiting (z y) ∙ sym (sees-other marks start Waiting y d ∙ ap is_seen (z y)))
       (both (eqb y start))
 
-  start_seen : (y : ℕ) → sees (set flags start 1) y ≡ eqb start y
+  start_seen : (y : ℕ) → sees (set marks start Waiting) y ≡ eqb start y
   start_seen y =
       ⊎_elim
-      (λ e. let q = eqb-true start y e in rw (← q, get_or-set_same flags start 1 0 there) (sym (rw (← q) at e)))
-      (λ e. rw (get_or-set_other flags start y 1 0 (λ q. eqb-false start y e (sym q)), z y) (sym e))
+      (λ e. let q = eqb-true start y e in rw (← q) (sees-same marks start Waiting there ∙ sym (eq-eqb start start refl)))
+      (λ e. sees-other marks start Waiting y (λ q. eqb-false start y e (sym q)) ∙ ap is_seen (z y) ∙ sym e)
       (both (eqb start y))
 
-  only-start : sees (set flags start 1) ≡ eqb start
-  only-start = fun_ext start_seen
+  only_started : Started start (set marks start Waiting)
+  only_started = record { fresh = record { waiting = start_fresh }; only = fun_ext start_seen }
 
--- of the entry's own flags
-pub record Started (start : ℕ) (flags : List ℕ) : Type 0 where
-  pub fresh : (y : ℕ) → get_or flags y 0 ≤ 1
-  pub only : sees flags ≡ eqb start
-
-pub started : (start n : ℕ) → start < n → n ≤ 128 → (flags : List ℕ) → flags ≡ set (replicate 128 0) start 1 → Started start flags
-started start n l small flags e =
-    let zeros : List ℕ = replicate 128 0 in
-    let there : start < length zeros = omega arith in
-    rw e (record { fresh = start_fresh zeros start there (zeros-at 128); only = only-start zeros start there (zeros-at 128) })
+pub started : (start n : ℕ) → start < n → n ≤ 128 → (marks : List Mark) → marks ≡ reached start (replicate 128 Unseen) → Started start marks
+started start n l small marks e =
+    let none : List Mark = replicate 128 Unseen in
+    rw (e, ← reached_new start none (unseen-at 128 start)) (only_started none start (omega arith) (unseen-at 128))

@@ -1,19 +1,13 @@
 -- The definition that turns a search's answer into document 01's terms loses nothing: answers that say the same are the same. Assumes nothing.
-use Prim.Native.Nat.{ℕ}
-use native.Mathlib.Omega.{arith}
 use mathlib.Core.Path.{◌≡◌}
-use Rattle.rules.specs.Entries as rules
+use Rattle.std.specs.Prelude.{Result}
+use Rattle.space.specs.declared.refusal.Refusal.{Refusal}
+use Rattle.space.proofs.Told.{told-one}
 use Rattle.search.specs.declared.Counts.{Counts}
-use Rattle.search.specs.declared.Searched.{Searched}
-use Rattle.search.specs.declared.Searched.TheVariants.{Refused, Done}
-use Rattle.search.specs.Answer.{told}
+use Rattle.search.specs.Answer.{counted, told}
 
-abbrev to_counts : Counts → rules.Counts
-to_counts c = record { found = c.found; seen = c.seen; walked = c.walked }
+counted-one : (c k : Counts) → counted c ≡ counted k → c ≡ k
+counted-one c k q = λ i. record { found = (q i).found; seen = (q i).seen; walked = (q i).walked }
 
-pub search-told : (a b : Searched) → told a ≡ told b → a ≡ b
-search-told (Refused x) (Refused y) e = cc
-search-told (Refused x) (Done c) e = let z : ◌≡◌ {A = ℕ} 0 1 = cc in absurd (omega arith)
-search-told (Done c) (Refused y) e = let z : ◌≡◌ {A = ℕ} 0 1 = cc in absurd (omega arith)
-search-told (Done c) (Done k) e =
-    let q : to_counts c ≡ to_counts k = cc in λ i. Done (record { found = (q i).found; seen = (q i).seen; walked = (q i).walked })
+pub search-told : (a b : Result Counts Refusal) → told a ≡ told b → a ≡ b
+search-told a b e = told-one counted counted-one a b e

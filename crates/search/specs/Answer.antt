@@ -1,14 +1,23 @@
--- What a search answers, in the rules' terms, and what a key of the line says.
-use Rattle.std.specs.Prelude.{ℕ, ◌/◌, ◌%◌}
-use Rattle.rules.specs.Outcome.{Outcome, refused, gives}
+-- What a search is asked and what it answers, in the rules' terms, and what a key of the line says.
+use Rattle.std.specs.Prelude.{ℕ, ◌/◌, ◌%◌, Result}
+use Rattle.rules.specs.Outcome.{Outcome}
 use Rattle.rules.specs.Entries as rules
-use Rattle.search.specs.declared.Searched.{Searched}
-use Rattle.search.specs.declared.Searched.TheVariants.{Refused, Done}
+use Rattle.space.specs.declared.refusal.Refusal.{Refusal}
+use Rattle.space.specs.Told as outcome
+use Rattle.search.specs.declared.Ask.{Ask}
+use Rattle.search.specs.declared.Counts.{Counts}
+
+abbrev pub asked : Ask → rules.Ask
+asked a =
+    rules.ask a.question.set.n a.question.set.d a.question.set.vectors.now a.question.table.now a.question.query.now
+    a.start a.question.threshold a.width a.k
+
+abbrev pub counted : Counts → rules.Counts
+counted c = record { found = c.found; seen = c.seen; walked = c.walked }
 
 -- the number of a refusal, or found, seen and walked
-abbrev pub told : Searched → Outcome rules.Counts
-told (Refused r) = refused r
-told (Done c) = gives (record { found = c.found; seen = c.seen; walked = c.walked })
+abbrev pub told : Result Counts Refusal → Outcome rules.Counts
+told r = outcome.told counted r
 
 -- a key is D × 128 + id
 abbrev pub id_of : ℕ → ℕ

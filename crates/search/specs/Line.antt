@@ -1,11 +1,23 @@
--- What the functions on the line do. A flag is 0 for an id that is not seen, 1 for one that waits, 2 for one on the trail.
-use Rattle.std.specs.Prelude.{ℕ, ◌+◌, ◌%◌, ◌≤◌, ◌<◌, ◌≡◌, Bool, true, false, not, List, ◌∷◌, ◌++◌, eqb, length, get_or, take, drop}
+-- What a mark says of an id, and what the functions on the line do.
+use Rattle.std.specs.Prelude.{ℕ, ◌+◌, ◌%◌, ◌≤◌, ◌<◌, ◌≡◌, Bool, true, false, List, ◌∷◌, ◌++◌, length, get_or, take, drop}
+use Rattle.search.specs.declared.see.Mark.{Mark}
+use Rattle.search.specs.declared.see.Mark.TheVariants.{Unseen, Waiting, Walked}
 
-abbrev pub waits : List ℕ → ℕ → Bool
-waits flags id = eqb (get_or flags id 0) 1
+abbrev pub is_waiting : Mark → Bool
+is_waiting Unseen = false
+is_waiting Waiting = true
+is_waiting Walked = false
 
-abbrev pub sees : List ℕ → ℕ → Bool
-sees flags id = not (eqb (get_or flags id 0) 0)
+abbrev pub is_seen : Mark → Bool
+is_seen Unseen = false
+is_seen Waiting = true
+is_seen Walked = true
+
+abbrev pub waits : List Mark → ℕ → Bool
+waits marks id = is_waiting (get_or marks id Unseen)
+
+abbrev pub sees : List Mark → ℕ → Bool
+sees marks id = is_seen (get_or marks id Unseen)
 
 -- r is the place of the key x among the first m numbers of a line: those from there on are larger, and the one before it is not
 pub record Slot (line : List ℕ) (m x r : ℕ) : Type 0 where
@@ -30,8 +42,8 @@ pub record Put (old : List ℕ) (m x r : ℕ) (new : List ℕ) : Type 0 where
   pub keys : take (m + 1) new ≡ take r (take m old) ++ (x ∷ drop r (take m old))
 
 -- r is the first place from a on whose id waits, or m
-pub record Opened (line flags : List ℕ) (m a r : ℕ) : Type 0 where
+pub record Opened (line : List ℕ) (marks : List Mark) (m a r : ℕ) : Type 0 where
   pub from : a ≤ r
   pub within : r ≤ m
-  pub passed : (i : ℕ) → a ≤ i → i < r → waits flags (get_or line i 0 % 128) ≡ false
-  pub open_there : r < m → waits flags (get_or line r 0 % 128) ≡ true
+  pub passed : (i : ℕ) → a ≤ i → i < r → waits marks (get_or line i 0 % 128) ≡ false
+  pub open_there : r < m → waits marks (get_or line r 0 % 128) ≡ true

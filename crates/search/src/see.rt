@@ -1,52 +1,77 @@
-// A point becomes seen. A flag is 0 for a point that is not seen, 1 for one that waits, 2 for one on the trail.
-ghost use Rattle.std.specs.Prelude.{◌≡◌, ◌+◌, ◌*◌, ◌<◌, ◌≤◌, length, get_or, set};
-ghost use Rattle.laws.specs.Lent.{Askable};
+// A point becomes seen.
+ghost use Rattle.std.specs.Prelude.{◌≡◌, ◌<◌, replicate};
+ghost use Rattle.search.specs.Rest.{Numbered, Rest, reached};
 ghost use Rattle.search.specs.Seen.{key_of, Lined};
 
 use crate::line;
+use arrayvec::ArrayVec;
+use space::Asked;
 
-// How many points are seen, a place of the line before which no point waits, and how many ids are left on the list of those that may not be seen.
-#[derive(Clone, Copy)]
-pub(crate) struct Front {
-    pub(crate) seen: usize,
+// A point is not seen, or it is seen and waits to go on the trail, or it is on it.
+#[derive(Clone, Copy, PartialEq, Eq)]
+pub(crate) enum Mark {
+    Unseen,
+    Waiting,
+    Walked,
+}
+
+// How far the exploration of a question has come: each point's mark, the line of the seen points' keys, smallest first, a place of the line before which no
+// point waits, and on a list, in no order, the ids that may not be seen yet.
+#[derive(Drop)]
+pub(crate) struct Front<'a> {
+    pub(crate) asked: Asked<'a>,
+    pub(crate) marks: [Mark; 128],
+    pub(crate) line: ArrayVec<u32, 128>,
     pub(crate) from: usize,
+    // An array with its length beside it: with an `ArrayVec` in its place a search took 12 to 35 % longer.
+    pub(crate) rest: [u8; 128],
     pub(crate) left: usize,
+    pub(crate) ghost lined: { Lined asked.points.set.n (key_of asked) marks line.items from },
+    pub(crate) ghost listed: { Rest asked.points.set.n marks rest left },
 }
 
-// The key of a point, by which the line is in order: smaller D first, and at equal D the lower id.
-fn key_of(distance: u32, id: u32) -> u32
-    requires { (distance ≤ 4161600) × (id < 128) }
-    ensures { result ≡ distance * 128 + id }
+// Every id, in order.
+fn every_id() -> [u8; 128]
+    ensures { Numbered 128 result }
 {
-    distance * 128 + id
+    let mut ids = [0u8; 128];
+    for id in 0..128u8 {
+        ids[usize::from(id)] = id;
+    }
+    ids
 }
 
-// A point that was not seen becomes seen: its key goes into the line.
-pub(crate) fn see(
-    n: usize,
-    d: usize,
-    vectors: &[i8],
-    query: &[i8],
-    id: usize,
-    front: Front,
-    flags: &mut [u8],
-    line: &mut [u32],
-) -> Front
-    requires given { Askable n d (length vectors.now) (length query.now) }
-    requires lined { Lined n (key_of d vectors.now query.now) flags.old line.old front.seen front.from }
-    requires fresh { (id < n) × (get_or flags.old id 0 ≡ 0) }
-    ensures { (flags.new ≡ set flags.old id 1)
-        × Lined n (key_of d vectors.now query.now) flags.new line.new result.seen result.from
-        × (result.left ≡ front.left) }
-{
-    let seen = front.seen;
-    let from = front.from;
-    flags[id] = 1;
-    let key = key_of(space::measure(n, d, vectors, id, query), id as u32);
-    let at = line::put(line, seen, key);
-    Front {
-        seen: seen + 1,
-        from: space::smaller(at, from),
-        left: front.left,
+impl<'a> Front<'a> {
+    // Nothing is seen.
+    pub(crate) fn new(asked: Asked<'a>) -> Self
+        ensures asked { result.asked ≡ asked.entry }
+        ensures marks { result.marks ≡ replicate 128 Mark.Unseen }
+    {
+        Front {
+            asked,
+            marks: [Mark::Unseen; 128],
+            line: ArrayVec::new(),
+            from: 0,
+            rest: every_id(),
+            left: asked.points.set.n,
+        }
+    }
+
+    // A point becomes seen, unless it is: its key goes into the line.
+    pub(crate) fn see(&mut self, id: u8)
+        requires { id < self.old.asked.points.set.n }
+        ensures asked { self.new.asked ≡ self.old.asked }
+        ensures marks { self.new.marks ≡ reached id self.old.marks }
+        ensures rest { (self.new.rest ≡ self.old.rest) × (self.new.left ≡ self.old.left) }
+    {
+        let mark = self.marks[usize::from(id)];
+        if mark != Mark::Unseen {
+            return;
+        }
+        self.marks[usize::from(id)] = Mark::Waiting;
+        let key = self.asked.key(id);
+        self.line.push(key);
+        let at = line::put(self.line.as_mut_slice(), key);
+        self.from = at.min(self.from);
     }
 }

@@ -1,159 +1,111 @@
--- Asks put one after the other: what is left, put where the loop is, gives what all of them give. Assumes nothing.
-use mathlib.Core.Path.{◌≡◌, refl, sym, ap, ◌∙◌}
-use mathlib.Core.Bool.{true}
-use mathlib.Core.List.{List, ◌++◌, append_assoc}
-use Prim.Native.Nat.{ℕ, suc, ◌+◌, ◌-◌, ◌*◌, ◌≤◌, ◌<◌}
-use native.Mathlib.Nat.{mul-le-mul_right}
-use native.Mathlib.Omega.{arith}
-use lib.ListN.{length, take, drop, get_or, length-append, length-drop}
-use lib.Seq.{drop-drop, length-take-le}
-use lib.IntN.{ℤ}
-use Rattle.rules.specs.Bits.{bits, all_fit, value_bits}
+-- Asks put one after the other: those that are left, put where the pen is, give what all of them give. Assumes nothing.
+use Rattle.std.proofs.Common.{◌≡◌, ℕ, zero, suc, ◌+◌, ◌*◌, ◌/◌, ◌<◌, true, Bool, List, [], ◌∷◌, ◌++◌, length, ℤ, refl, sym, ap, ◌∙◌, arith, length-append, append_assoc}
+use lib.Seq.{take_at, drop_at}
+use Rattle.rules.specs.Bits.{all_fit, value_bits}
 use Rattle.rules.specs.Sheet.{number_bits, ask_bits}
-use Rattle.rules.specs.Refusals.{ask_refusal, asks_refusal}
+use Rattle.rules.specs.Refusals.{ask_refusal}
 use Rattle.laws.proofs.Values.{length-value_bits, fit_take, fit_drop}
-use Rattle.laws.proofs.Numbers.{four, asks_both, length-number_bits}
+use Rattle.laws.proofs.Refusals.{else_both}
+use Rattle.laws.proofs.Numbers.{length-number_bits}
 use Rattle.laws.proofs.Asks.{ask_bits-suc}
+use Rattle.sheet.specs.declared.put.Pen.{Pen}
 use Rattle.sheet.specs.Put.{put_bits}
-use Rattle.sheet.proofs.Putting.{put_bits-none, put_bits-append, put_then}
+use Rattle.sheet.specs.Pen.{Puts, Room}
+use Rattle.sheet.proofs.Putting.{put_bits-append}
+use Rattle.sheet.proofs.Refusing.{rows_refusal, ask_first}
 
--- ---- one ask
+-- ---- a pen that has put some of the bits `all`, where the bits `rest` are left: who puts them has put all
 
-number_bits-is : (ns : List ℕ)
-    → bits 7 (get_or ns 0 0) ++ (bits 7 (get_or ns 1 0 - 1) ++ (bits 7 (get_or ns 2 0 - 1) ++ bits 15 (get_or ns 3 0))) ≡ number_bits ns
+pub record Left (a b : Pen) (all rest : List Bool) : Type 0 where
+  pub same : b.out.ghost_name ≡ a.out.ghost_name
+  pub long : length b.out.now ≡ length a.out.now
+  pub next : b.next + length rest ≡ a.next + length all
+  pub out : put_bits b.out.now b.next rest ≡ put_bits a.out.now a.next all
+
+pub left_room : (a b : Pen) (all u rest : List Bool) → Left a b all (u ++ rest) → Room a (length all) → Room b (length u)
+left_room a b all u rest l r =
+    let e = length-append u rest in
+    record { room = omega (arith, l.next, l.long, r.room); small = omega (arith, l.next, r.small) }
+
+pub left_more : (a b c : Pen) (all u rest : List Bool) → Left a b all (u ++ rest) → Puts b c u → Left a c all rest
+left_more a b c all u rest l p =
+    let e = length-append u rest in
+    record {
+      same = p.same ∙ l.same;
+      long = p.long ∙ l.long;
+      next = omega (arith, l.next, p.next);
+      out = rw (p.next, p.out) (sym (put_bits-append b.out.now b.next u rest) ∙ l.out);
+    }
+
+pub left_end : (a b : Pen) (all : List Bool) → Left a b all [] → Puts a b all
+unfolding put_bits
+left_end a b all l = record { same = l.same; long = l.long; next = omega (arith, l.next); out = l.out }
+
+-- ---- the asks that are left: their rows of four numbers, and their queries of d values
+
+pub record Asks (d c : ℕ) (a b : Pen) (all : List Bool) (ns : List ℕ) (qs : List ℤ) : Type 0 where
+  pub rows : length ns ≡ 4 * (length ns / 4)
+  pub queries : length qs ≡ length ns / 4 * d
+  pub given : rows_refusal ns ≡ 0
+  pub fit : all_fit c qs ≡ true
+  pub left : Left a b all (ask_bits d c (length ns / 4) ns qs)
+
+pub asks_end : (d c : ℕ) (a b : Pen) (all : List Bool) (ns : List ℕ) (qs : List ℤ) → Asks d c a b all ns qs → length ns / 4 ≡ 0 → Puts a b all
+unfolding ask_bits
+asks_end d c a b all ns qs l none = left_end a b all (rw (none, ask_bits) at l.left)
+
+-- there is none where the queries end
+pub no_query : (d n : ℕ) (qs : List ℤ) → length qs ≡ n * d → length qs < d → n ≡ 0
+no_query d zero qs e h = refl
+no_query d (suc n) qs e h = absurd (omega arith)
+
+number_bits-first : (row ns : List ℕ) → length row ≡ 4 → number_bits (row ++ ns) ≡ number_bits row
 unfolding number_bits
-number_bits-is ns = refl
+number_bits-first (x ∷ y ∷ z ∷ w ∷ []) ns e = refl
+number_bits-first [] ns e = absurd (omega arith)
+number_bits-first (x ∷ []) ns e = absurd (omega arith)
+number_bits-first (x ∷ y ∷ []) ns e = absurd (omega arith)
+number_bits-first (x ∷ y ∷ z ∷ []) ns e = absurd (omega arith)
+number_bits-first (x ∷ y ∷ z ∷ w ∷ v ∷ row) ns e = absurd (omega arith)
 
-pub ask-put : (o₀ : List ℕ) {o₁ o₂ : List ℕ} (at : ℕ) {p : ℕ} (c : ℕ) (ns : List ℕ) (qs : List ℤ) {a b k t : ℕ}
-    → a ≡ get_or ns 0 0 → b ≡ get_or ns 1 0 → k ≡ get_or ns 2 0 → t ≡ get_or ns 3 0 → p ≡ at + 36
-    → o₁ ≡ put_bits o₀ at (bits 7 a ++ (bits 7 (b - 1) ++ (bits 7 (k - 1) ++ bits 15 t))) → o₂ ≡ put_bits o₁ p (value_bits c qs)
-    → o₂ ≡ put_bits o₀ at (number_bits ns ++ value_bits c qs)
-ask-put o₀ {o₁} {o₂} at {p} c ns qs {a} {b} {k} {t} ea eb ek et ep f g =
-    put_then o₀ o₁ o₂ at p (number_bits ns) (value_bits c qs) (rw length-number_bits ep) (f ∙ same) g
-  where
-    same : put_bits o₀ at (bits 7 a ++ (bits 7 (b - 1) ++ (bits 7 (k - 1) ++ bits 15 t))) ≡ put_bits o₀ at (number_bits ns)
-    same = rw (ea, eb, ek, et) (ap (put_bits o₀ at) (number_bits-is ns))
+-- the next ask
+module _ {d c : ℕ} {a b : Pen} {all : List Bool} {ns : List ℕ} {qs : List ℤ} (l : Asks d c a b all ns qs)
+    (row ns' : List ℕ) (query qs' : List ℤ) (is-row : ns ≡ row ++ ns') (four : length row ≡ 4) (is-query : qs ≡ query ++ qs') (long : length query ≡ d) where
+  abbrev one : List Bool
+  one = number_bits row ++ value_bits c query
 
--- an ask is its first four numbers
-four_refusal : (l : List ℕ) → 4 ≤ length l → ask_refusal (take 4 l) ≡ ask_refusal l
-unfolding ask_refusal
-four_refusal l h = ap ask_refusal (four l h)
+  count : length ns / 4 ≡ suc (length ns' / 4)
+  count = let e = length-append row ns' in rw is-row (omega arith)
 
-four-bits : (l : List ℕ) → 4 ≤ length l → number_bits (take 4 l) ≡ number_bits l
-unfolding number_bits
-four-bits l h = ap number_bits (four l h)
+  both : (ask_refusal row ≡ 0) × (rows_refusal ns' ≡ 0)
+  both = else_both _ _ (sym (ask_first row ns' four) ∙ (rw is-row at l.given))
 
--- one ask, and the rest of them
-ask_step : (out : List ℕ) (p d c a : ℕ) (ns : List ℕ) (qs : List ℤ) → 4 ≤ length ns → d ≤ length qs
-    → put_bits (put_bits out p (number_bits (take 4 ns) ++ value_bits c (take d qs))) (p + 36 + d * c) (ask_bits d c a (drop 4 ns) (drop d qs))
-    ≡ put_bits out p (ask_bits d c (suc a) ns qs)
-ask_step out p d c a ns qs h l =
-    let u = number_bits ns ++ value_bits c (take d qs) in
-    let rest = ask_bits d c a (drop 4 ns) (drop d qs) in
-    let n : length u ≡ 36 + d * c = rw (length-append, length-number_bits, length-value_bits, length-take-le d qs l) in
-    let e : p + 36 + d * c ≡ p + length u = rw n (omega arith) in
-    rw (four-bits ns h, e, ← (put_bits-append out p u rest))
-    (ap (put_bits out p) (append_assoc (number_bits ns) (value_bits c (take d qs)) rest ∙ sym (ask_bits-suc d c a ns qs)))
+  pub ask_given : ask_refusal row ≡ 0
+  ask_given = both.0
 
--- ---- a turn of the loop over asks: i asks are put, j = 4 i numbers and q = i d query values are used
+  pub ask_fits : all_fit c query ≡ true
+  ask_fits = rw (is-query, take_at query qs' d long) at (fit_take c d qs l.fit)
 
--- what the loop knows
-pub record Turn (d c asks : ℕ) (ns : List ℕ) (qs : List ℤ) (at : ℕ) (out₀ : List ℕ) (i j q p : ℕ) (out : List ℕ) : Type 0 where
-  pub few : i ≤ asks
-  pub used : j ≡ 4 * i
-  pub asked : q ≡ i * d
-  pub place : p ≡ at + i * (36 + d * c)
-  pub as_long : length out ≡ length out₀
-  pub rest_fit : asks_refusal (asks - i) (drop j ns) ≡ 0
-  pub gives : put_bits out p (ask_bits d c (asks - i) (drop j ns) (drop q qs)) ≡ put_bits out₀ at (ask_bits d c asks ns qs)
+  next_is : ask_bits d c (length ns / 4) ns qs ≡ one ++ ask_bits d c (length ns' / 4) ns' qs'
+  next_is =
+      rw (count, ask_bits-suc d c (length ns' / 4) ns qs, is-row, is-query, number_bits-first row ns' four, drop_at row ns' 4 four, take_at query qs' d long, drop_at query qs' d long)
+      (sym (append_assoc (number_bits row) (value_bits c query) _))
 
-pub turn_start : (d c asks : ℕ) (ns : List ℕ) (qs : List ℤ) (at : ℕ) (out : List ℕ) → asks_refusal asks ns ≡ 0
-    → Turn d c asks ns qs at out 0 0 0 at out
-turn_start d c asks ns qs at out f =
-    let z : asks - 0 ≡ asks = omega arith in
-    record { few = omega arith; used = refl; asked = omega arith; place = omega arith; as_long = refl; rest_fit = rw z f; gives = rw z }
+  pub ask_room : Room a (length all) → Room b (36 + length query * c)
+  ask_room r =
+      let e : length one ≡ 36 + length query * c = rw (length-append, length-number_bits, length-value_bits) in
+      rw e at (left_room a b all one _ (rw next_is at l.left) r)
 
-module _ {d c asks : ℕ} {ns : List ℕ} {qs : List ℤ} {at : ℕ} {out₀ : List ℕ} {i j q p : ℕ} {out : List ℕ}
-    (t : Turn d c asks ns qs at out₀ i j q p out) where
-  asks-zero : put_bits out p (ask_bits d c 0 (drop j ns) (drop q qs)) ≡ out
-  unfolding ask_bits
-  asks-zero = put_bits-none out p
-
-  pub turn_end : asks ≤ i → (p ≡ at + asks * (36 + d * c)) × (out ≡ put_bits out₀ at (ask_bits d c asks ns qs))
-  turn_end h =
-      let e : i ≡ asks = omega (arith, t.few) in
-      let z : asks - i ≡ 0 = omega arith in
-      let m : i * (36 + d * c) ≡ asks * (36 + d * c) = ap (λ (x : ℕ). x * (36 + d * c)) e in (
-        omega (arith, t.place),
-        sym asks-zero ∙ ap (λ (a : ℕ). put_bits out p (ask_bits d c a (drop j ns) (drop q qs))) (sym z) ∙ t.gives,
-      )
-
-  module _ (hi : i < asks) (en : length ns ≡ 4 * asks) (el : length qs ≡ asks * d) where
-    -- this ask's numbers and query
-    abbrev nn : List ℕ
-    nn = take (j + 4 - j) (drop j ns)
-
-    abbrev qq : List ℤ
-    qq = take (q + d - q) (drop q qs)
-
-    more : (i + 1) * d ≤ asks * d
-    more = mul-le-mul_right d (let h : i + 1 ≤ asks = omega arith in h)
-
-    pub numbers_left : j + 4 ≤ length ns
-    numbers_left = omega (arith, t.used)
-
-    pub queries_left : q + d ≤ length qs
-    queries_left = omega (arith, t.asked, more)
-
-    four_left : 4 ≤ length (drop j ns)
-    four_left = rw length-drop (omega (arith, numbers_left))
-
-    d_left : d ≤ length (drop q qs)
-    d_left = rw length-drop (omega (arith, queries_left))
-
-    four_is : j + 4 - j ≡ 4
-    four_is = omega arith
-
-    d-is : q + d - q ≡ d
-    d-is = omega arith
-
-    left : asks - i ≡ suc (asks - (i + 1))
-    left = omega arith
-
-    pub turn_four : length nn ≡ 4
-    turn_four = rw four_is (length-take-le 4 (drop j ns) four_left)
-
-    pub turn_d : length qq * c ≡ d * c
-    turn_d = ap (λ (x : ℕ). x * c) (rw d-is (length-take-le d (drop q qs) d_left))
-
-    both : (ask_refusal (drop j ns) ≡ 0) × (asks_refusal (asks - (i + 1)) (drop 4 (drop j ns)) ≡ 0)
-    both = asks_both (asks - (i + 1)) (drop j ns) (rw left at t.rest_fit)
-
-    pub turn_fits : ask_refusal nn ≡ 0
-    turn_fits = rw four_is (four_refusal (drop j ns) four_left ∙ both.0)
-
-    pub turn_values : all_fit c qs ≡ true → all_fit c qq ≡ true
-    turn_values f = fit_take c (q + d - q) (drop q qs) (fit_drop c q qs f)
-
-    pub turn_room : (limit : ℕ) → at + asks * (36 + d * c) ≤ limit → p + 36 + length qq * c ≤ limit
-    turn_room limit h =
-        let m : (i + 1) * (36 + d * c) ≤ asks * (36 + d * c) = mul-le-mul_right (36 + d * c) (let h : i + 1 ≤ asks = omega arith in h) in
-        omega (arith, t.place, turn_d)
-
-    pub turn_again : {out₂ : List ℕ} {p₂ : ℕ} → p₂ ≡ p + 36 + length qq * c → length out₂ ≡ length out
-        → out₂ ≡ put_bits out p (number_bits nn ++ value_bits c qq)
-        → Turn d c asks ns qs at out₀ (i + 1) (j + 4) (q + d) p₂ out₂
-    turn_again {p₂ = p₂} ep ew eo =
-        let e : p₂ ≡ p + 36 + d * c = ep ∙ ap (λ (x : ℕ). p + 36 + x) turn_d in
-        record {
-          few = omega arith;
-          used = omega (arith, t.used);
-          asked = omega (arith, t.asked);
-          place = omega (arith, t.place);
-          as_long = ew ∙ t.as_long;
-          rest_fit = rw (drop-drop 4 j ns) at both.1;
-          gives =
-              rw (eo, e, four_is, d-is, ← (drop-drop 4 j ns), ← (drop-drop d q qs))
-              (ask_step out p d c (asks - (i + 1)) (drop j ns) (drop q qs) four_left d_left
-              ∙ ap (λ (n : ℕ). put_bits out p (ask_bits d c n (drop j ns) (drop q qs))) (sym left) ∙ t.gives);
-        }
+  pub asks_more : (b' : Pen) → Puts b b' one → Asks d c a b' all ns' qs'
+  asks_more b' p =
+      let e = length-append row ns' in
+      let f = length-append query qs' in
+      let n = ap length is-row in
+      let m = ap length is-query in
+      record {
+        rows = omega (arith, l.rows, count);
+        queries = omega (arith, l.queries, ap (λ (k : ℕ). k * d) count);
+        given = both.1;
+        fit = rw (is-query, drop_at query qs' d long) at (fit_drop c d qs l.fit);
+        left = left_more a b b' all one _ (rw next_is at l.left) p;
+      }

@@ -1,61 +1,52 @@
--- A buffer that is filled with values one after the other: what it has so far and what is left to read make the whole. Assumes nothing.
-use mathlib.Core.Path.{◌≡◌, ap, ◌∙◌}
-use mathlib.Core.Bool.{Bool}
-use mathlib.Core.List.{List, ◌∷◌, ◌++◌, append-nil}
-use Prim.Native.Nat.{ℕ, suc, ◌+◌, ◌-◌, ◌*◌, ◌^◌, ◌≤◌, ◌<◌, min}
+-- A buffer that is filled with values one after the other. Assumes nothing.
+use Rattle.std.proofs.Common.{◌≡◌, ℕ, zero, suc, ◌+◌, ◌*◌, ◌^◌, ◌≤◌, ◌<◌, min, Bool, List, [], ◌∷◌, ◌++◌, length, take, drop, ℤ, ap, refl, ◌∙◌, arith}
+use Rattle.std.proofs.Math.ListN.{set}
+use Rattle.std.proofs.lemmas.List.{take_more_set}
+use lib.Seq.{drop-drop}
 use native.Mathlib.Nat.{mul-le-mul_right}
-use native.Mathlib.Omega.{arith}
-use lib.ListN.{length, take, drop, set, length-set}
-use lib.Seq.{take-suc-set, take_all, append_snoc, drop-drop}
-use lib.IntN.{ℤ}
+use native.Mathlib.Numerals.{add-one}
 use mir.Syntax.{w8}
 use mir.Val.{SFits, to_z, of_z}
 use mir.ValLaws.{to_z-of_z}
 use Rattle.rules.specs.Bits.{number, signed, values, unpacked}
 use Rattle.rules.specs.Sheet.{field_at}
 use Rattle.laws.proofs.Fields.{field_lt}
+use Rattle.sheet.specs.Past.{past_at}
 
--- what the buffer has up to i, and what is left to read from bit p on
-unfoldable pub reading : List ℕ → ℕ → List ℤ → ℕ → ℕ → List ℤ
-reading ys c buffer i p = take i buffer ++ values c (length buffer - i) (drop p (unpacked ys))
+-- one value more
+values_push : (c i : ℕ) (bs : List Bool) → values c (suc i) bs ≡ values c i bs ++ (signed c (number (take c (drop (i * c) bs))) ∷ [])
+unfolding values
+values_push c zero bs = let e : 0 * c ≡ 0 = omega arith in rw e
+values_push c (suc i) bs =
+    let e : suc i * c ≡ c + i * c = omega arith in
+    ap (λ (l : List ℤ). signed c (number (take c bs)) ∷ l) (values_push c i (drop c bs) ∙ rw (drop-drop (i * c) c bs, ← e))
 
-pub reading_all : (ys : List ℕ) (c : ℕ) (buffer : List ℤ) (p : ℕ) → reading ys c buffer 0 p ≡ values c (length buffer) (drop p (unpacked ys))
-unfolding reading
-reading_all ys c buffer p = let e : length buffer - 0 ≡ length buffer = omega arith in rw e
+-- the first i cells are filled, from bit `at` on, and the next value is read at bit p
+pub record Filled (ys : List ℕ) (at c : ℕ) (buffer : List ℤ) (i p : ℕ) : Type 0 where
+  pub place : p ≡ at + i * c
+  pub cells : take i buffer ≡ values c i (drop at (unpacked ys))
 
-pub reading_none : (ys : List ℕ) (c : ℕ) (buffer : List ℤ) (i p : ℕ) → length buffer ≤ i → reading ys c buffer i p ≡ buffer
-unfolding reading values
-reading_none ys c buffer i p h =
-    let e : length buffer - i ≡ 0 = omega arith in
-    rw (e, values) (append-nil (take i buffer) ∙ take_all i buffer h)
+pub filled_none : (ys : List ℕ) (at c : ℕ) (buffer : List ℤ) → Filled ys at c buffer 0 at
+unfolding values
+filled_none ys at c buffer = record { place = omega arith; cells = refl }
 
--- one value more: u is the field at p
-module _ (ys : List ℕ) (c p : ℕ) (few : c ≤ 8) {u : ℕ} (is : u ≡ field_at ys p (min c 16)) where
-  read_is : u ≡ field_at ys p c
-  read_is = let e : min c 16 ≡ c = omega arith in is ∙ ap (field_at ys p) e
+-- u is what is read at p
+pub read_small : (ys : List ℕ) (p c : ℕ) {u : ℕ} → c ≤ 8 → u ≡ field_at ys p (min c 16) → u < 2 ^ c
+read_small ys p c few is = let e : min c 16 ≡ c = omega arith in rw (is, e) (field_lt ys p c)
 
-  pub read_small : u < 2 ^ c
-  read_small = rw read_is (field_lt ys p c)
-
-  values-suc : (m : ℕ) → values c (suc m) (drop p (unpacked ys)) ≡ signed c (field_at ys p c) ∷ values c m (drop (p + c) (unpacked ys))
-  unfolding values field_at
-  values-suc m =
-      ap (λ (r : List Bool). signed c (number (take c (drop p (unpacked ys)))) ∷ values c m r) (drop-drop c p (unpacked ys))
-
-  pub reading_more : (buffer : List ℤ) (i : ℕ) → i < length buffer → {v : ℤ} → v ≡ signed c u → SFits w8 v
-      → reading ys c (set buffer i (to_z w8 (of_z w8 v))) (i + 1) (p + c) ≡ reading ys c buffer i p
-  unfolding reading
-  reading_more buffer i l {v} e f =
-      let m = length buffer - suc i in
-      let s : length buffer - i ≡ suc m = omega arith in
-      let a : i + 1 ≡ suc i = omega arith in
-      let g : v ≡ signed c (field_at ys p c) = e ∙ ap (signed c) read_is in
-      rw (to_z-of_z w8 v f, length-set buffer i v, a, s, values-suc m, take-suc-set buffer i v l, g)
-      (append_snoc (take i buffer) (signed c (field_at ys p c)) (values c m (drop (p + c) (unpacked ys))))
-
--- the next value's place, by the bound on the last one's
-pub next_small : (at c i n m p : ℕ) → p ≡ at + i * c → i < n → n ≡ m → at + m * c < 2 ^ 20 → p + c < 2 ^ 20
-next_small at c i n m p e h s t =
-    let l : suc i ≤ m = omega arith in
-    let k : suc i * c ≤ m * c = mul-le-mul_right c l in
-    omega arith
+pub filled_more : (ys : List ℕ) (at c : ℕ) (buffer : List ℤ) (i p m : ℕ) {u q : ℕ} {v : ℤ} → Filled ys at c buffer i p → length buffer ≡ m → i < m
+    → c ≤ 8 → at + m * c < 2 ^ 20 → u ≡ field_at ys p (min c 16) → q ≡ past_at p c → v ≡ signed c u → SFits w8 v
+    → Filled ys at c (set buffer i (to_z w8 (of_z w8 v))) (i + 1) q
+unfolding field_at
+filled_more ys at c buffer i p m {u} {q} {v} f long l few small is next value fits =
+    let here : i < length buffer = omega arith in
+    let room : suc i * c ≤ m * c = mul-le-mul_right c (let h : suc i ≤ m = omega arith in h) in
+    let e : min c 16 ≡ c = omega arith in
+    let read : u ≡ number (take c (drop (i * c) (drop at (unpacked ys))))
+    = is ∙ rw (e, f.place, drop-drop (i * c) at (unpacked ys)) in
+    record {
+      place = omega (arith, f.place, next);
+      cells =
+          rw (to_z-of_z w8 v fits, take_more_set buffer i v here, f.cells, add-one i, values_push c i (drop at (unpacked ys)), value)
+          (ap (λ (n : ℕ). values c i (drop at (unpacked ys)) ++ (signed c n ∷ [])) read);
+    }

@@ -3,22 +3,18 @@ use mathlib.Core.Path.{◌≡◌, refl, sym, ap, ap₂, ◌∙◌}
 use mathlib.Core.Bool.{Bool}
 use mathlib.Core.List.{List, [], ◌∷◌, ◌++◌}
 use Prim.Native.Nat.{ℕ, zero, suc, ◌+◌, ◌-◌, ◌*◌, ◌/◌, ◌%◌, ◌^◌, ◌≤◌, ◌<◌}
-use native.Mathlib.Nat.{mod-lt, mod-eq_of_lt, lt_of_lt_of_le, zero-lt-suc, div-one}
+use native.Mathlib.Nat.{mod-lt, mod-eq_of_lt, zero-lt-suc, div-one}
 use native.Mathlib.Omega.{arith}
 use lib.ListN.{length, get_or, set, length-set}
 use lib.Seq.{get_or-set_same, set-set}
 use lib.Arith.{digits_lt}
-use lib.Pow.{shr_lt, shl_lt, shl-shr, shr-shr, pow_pos, pow_mono, pow-add, mod-pow-add}
+use Rattle.std.proofs.lemmas.Nat.{one_shl, shl_whole}
+use lib.Pow.{shr_lt, shl_lt, shl-shr, shr-shr, pow_pos, pow-add, mod-pow-add}
 use Rattle.rules.specs.Bits.{bit, odd, bits}
-use Rattle.laws.proofs.Bits.{bit-odd, bits-suc, length-bits}
-use Rattle.sheet.proofs.Shifts.{power_one}
+use Rattle.laws.proofs.Bits.{bit-odd, bits-suc}
 use Rattle.sheet.specs.Put.{put_in, put_bit, put_bits}
 
 -- ---- their equations
-
-pub put_bits-none : (out : List ℕ) (at : ℕ) → put_bits out at [] ≡ out
-unfolding put_bits
-put_bits-none out at = refl
 
 pub put_bits-cons : (out : List ℕ) (at : ℕ) (b : Bool) (bs : List Bool) → put_bits out at (b ∷ bs) ≡ put_bits (put_bit out at (bit b)) (at + 1) bs
 unfolding put_bits
@@ -30,18 +26,6 @@ put_bits-append out at [] ys = let e : at + 0 ≡ at = omega arith in rw e
 put_bits-append out at (x ∷ xs) ys =
     let e : at + 1 + length xs ≡ at + suc (length xs) = omega arith in
     put_bits-append (put_bit out at (bit x)) (at + 1) xs ys ∙ ap (λ (p : ℕ). put_bits (put_bits (put_bit out at (bit x)) (at + 1) xs) p ys) e
-
--- bits, and then more bits
-pub put_then : (o₀ o₁ o₂ : List ℕ) (at p : ℕ) (u v : List Bool) → p ≡ at + length u → o₁ ≡ put_bits o₀ at u → o₂ ≡ put_bits o₁ p v
-    → o₂ ≡ put_bits o₀ at (u ++ v)
-put_then o₀ o₁ o₂ at p u v e f g = g ∙ rw (e, f) (sym (put_bits-append o₀ at u v))
-
--- a field, and then more bits
-pub put-after : (o₀ : List ℕ) {o₁ o₂ : List ℕ} (at : ℕ) {p : ℕ} (w v : ℕ) (u : List Bool)
-    → p ≡ at + w → o₁ ≡ put_bits o₀ at (bits w v) → o₂ ≡ put_bits o₁ p u
-    → o₂ ≡ put_bits o₀ at (bits w v ++ u)
-put-after o₀ {o₁} {o₂} at {p} w v u e f g =
-    put_then o₀ o₁ o₂ at p (bits w v) u (e ∙ ap (λ (n : ℕ). at + n) (sym (length-bits w v))) f g
 
 -- ---- several bits into one byte
 
@@ -105,56 +89,40 @@ put-part-some out at zero v some h room = absurd (omega arith)
 put-part-some out at (suc k) v some h room = put-part out at k v h room
 
 -- the byte as the code computes it
+abbrev pub stored : ℕ → ℕ → ℕ → ℕ → ℕ
+stored x m k v = (x / 2 ^ (8 - m) * 2 ^ k % 18446744073709551616 + v % (1 * 2 ^ k % 18446744073709551616)) * 2 ^ (8 - m - k) % 18446744073709551616
+
 module _ (x m k v : ℕ) (hx : x < 256) (some : 1 ≤ k) (few : m + k ≤ 8) where
   abbrev kept : ℕ
   kept = x / 2 ^ (8 - m)
 
-  abbrev low : ℕ
-  low = v % (1 * 2 ^ k % 4294967296)
-
   abbrev sum : ℕ
-  sum = kept * 2 ^ k % 4294967296 + low
-
-  power_is : 1 * 2 ^ k % 4294967296 ≡ 2 ^ k
-  power_is = power_one k (omega arith)
+  sum = kept * 2 ^ k + v % 2 ^ k
 
   kept_lt : kept < 2 ^ m
   kept_lt = let e : m + (8 - m) ≡ 8 = omega arith in let h : x < 2 ^ (m + (8 - m)) = rw e hx in shr_lt m (8 - m) h
 
-  low_lt : v % 2 ^ k < 2 ^ k
-  low_lt = mod-lt v (pow_pos k)
-
-  whole_lt : kept * 2 ^ k + v % 2 ^ k < 2 ^ (m + k)
-  whole_lt = rw pow-add (digits_lt kept_lt low_lt)
-
-  sum_is : sum ≡ kept * 2 ^ k + v % 2 ^ k
-  sum_is =
-      let l : 2 ^ (m + k) ≤ 256 = pow_mono {j = 8} few in
-      let h : kept * 2 ^ k < 4294967296 = omega (arith, whole_lt) in
-      rw (power_is, mod-eq_of_lt h)
-
-  pub sum_small : sum < 256
-  sum_small = rw sum_is (lt_of_lt_of_le whole_lt (pow_mono {j = 8} few))
+  sum_lt : sum < 2 ^ (m + k)
+  sum_lt = rw pow-add (digits_lt kept_lt (mod-lt v (pow_pos k)))
 
   byte_lt : sum * 2 ^ (8 - m - k) < 256
-  byte_lt =
-      let e : m + k + (8 - m - k) ≡ 8 = omega arith in
-      let h : sum < 2 ^ (m + k) = rw sum_is whole_lt in
-      rw e at (shl_lt (m + k) (8 - m - k) h)
+  byte_lt = let e : m + k + (8 - m - k) ≡ 8 = omega arith in rw e at (shl_lt (m + k) (8 - m - k) sum_lt)
 
-  byte_fits : sum * 2 ^ (8 - m - k) % 4294967296 ≡ sum * 2 ^ (8 - m - k)
-  byte_fits = let h : sum * 2 ^ (8 - m - k) < 4294967296 = omega (arith, byte_lt) in mod-eq_of_lt h
+  -- nothing is shifted out
+  stored_is : stored x m k v ≡ sum * 2 ^ (8 - m - k)
+  stored_is =
+      rw (shl_whole kept m k 64 kept_lt (omega arith), one_shl k 64 (omega arith), shl_whole sum (m + k) (8 - m - k) 64 sum_lt (omega arith))
 
-  pub byte_small : sum * 2 ^ (8 - m - k) % 4294967296 < 256
-  byte_small = rw byte_fits byte_lt
+  pub byte_small : stored x m k v < 256
+  byte_small = rw stored_is byte_lt
 
-  pub byte_is : sum * 2 ^ (8 - m - k) % 4294967296 ≡ put_part x m k v
+  pub byte_is : stored x m k v ≡ put_part x m k v
   unfolding put_part
-  byte_is = byte_fits ∙ rw (sum_is, mod-eq_of_lt kept_lt)
+  byte_is = stored_is ∙ rw (mod-eq_of_lt kept_lt)
 
 -- ---- a field, part by part
 
-bits-split : (t k v : ℕ) → bits (t + k) v ≡ bits t (v / 2 ^ k) ++ bits k v
+pub bits-split : (t k v : ℕ) → bits (t + k) v ≡ bits t (v / 2 ^ k) ++ bits k v
 unfolding bits
 bits-split zero k v = let e : 0 + k ≡ k = omega arith in rw e
 bits-split (suc t) k v =
@@ -163,15 +131,3 @@ bits-split (suc t) k v =
     ap (λ (w : ℕ). bits w v) e
     ∙ bits-suc (t + k) v
     ∙ ap₂ (λ (b : Bool) (l : List Bool). b ∷ l) (ap odd (rw f (sym (shr-shr v k t)))) (bits-split t k v)
-
-pub field_step : (out : List ℕ) (p k t v : ℕ) → t ≤ k
-    → put_bits (put_bits out p (bits t (v / 2 ^ (k - t)))) (p + t) (bits (k - t) v) ≡ put_bits out p (bits k v)
-field_step out p k t v h =
-    let e : t + (k - t) ≡ k = omega arith in
-    let u = bits t (v / 2 ^ (k - t)) in
-    ap (λ (n : ℕ). put_bits (put_bits out p u) (p + n) (bits (k - t) v)) (sym (length-bits t (v / 2 ^ (k - t))))
-    ∙ sym (put_bits-append out p u (bits (k - t) v))
-    ∙ ap (put_bits out p) (sym (bits-split t (k - t) v) ∙ ap (λ (w : ℕ). bits w v) e)
-
-pub field-done : (out : List ℕ) (p k v : ℕ) → k ≤ 0 → put_bits out p (bits k v) ≡ out
-field-done out p k v h = let e : k ≡ 0 = omega arith in rw e (no_bits out p v)

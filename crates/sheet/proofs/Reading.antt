@@ -1,166 +1,101 @@
--- The refusals of reading, test by test, over what the code has in hand. Assumes nothing.
-use mathlib.Core.Path.{◌≡◌, sym, ap, ◌∙◌}
-use mathlib.Core.Logic.{◌≢◌}
-use mathlib.Core.Bool.{false}
-use mathlib.Core.List.{List}
-use Prim.Native.Nat.{ℕ, ◌+◌, ◌-◌, ◌*◌, ◌/◌, ◌≤◌, ◌<◌, min}
-use native.Mathlib.Omega.{arith}
-use lib.ListN.{length}
-use lib.Dec.{leb}
-use borrow.Author.Tests.{lt-ltb, le-ltb, le-leb, lt-leb, eq-eqb, ne_eqb}
-use Rattle.rules.specs.Bits.{byte_count}
-use Rattle.rules.specs.Sheet.{bit_count, sheet_length, points, coords, width, ask_count, required, filling, field_at}
-use Rattle.rules.specs.Refusals.{sheet_refusal, vectors_refusal, one_ask_refusal}
-use Rattle.laws.proofs.Refusals.{else_none, else_some, small_product}
-use Rattle.laws.proofs.Fields.{points-small, coords-small, width_small}
-use Rattle.laws.proofs.Writable.{read_none}
+-- Reading a sheet whose header was read, field after field. Assumes nothing.
+use Rattle.std.proofs.Common.{◌≡◌, ℕ, ◌+◌, ◌*◌, ◌^◌, ◌≤◌, ◌<◌, List, [], ◌∷◌, take, drop, refl, sym, ap, ◌∙◌, arith}
+use lib.Seq.{drop-drop}
+use mir.Syntax.{w16}
+use mir.Val.{Fits}
+use Rattle.rules.specs.Bits.{number, values, unpacked}
+use Rattle.rules.specs.Sheet.{bit_count, coords, width, ask_count, field_at, numbers_in, ask_place, ask_numbers, ask_query}
+use Rattle.rules.specs.Refusals.{sheet_refusal, one_ask_refusal}
+use Rattle.rules.specs.Entries.{numbers_of}
+use Rattle.laws.proofs.Refusals.{else_none}
+use borrow.Author.Tests.{lt-leb, eq-eqb}
+use Rattle.laws.proofs.Fields.{field_lt, points-small, coords-small, width_small}
+use Rattle.laws.proofs.Writable.{FewProducts, few_products}
 use Rattle.sheet.specs.declared.Head.{Head}
-use Rattle.sheet.specs.Answers.{head_of}
+use Rattle.sheet.specs.declared.place.Place.{Place}
+use Rattle.sheet.specs.declared.Numbers.{Numbers}
+use Rattle.sheet.specs.Answers.{head_of, row_of, four_of}
+use Rattle.sheet.specs.Past.{past_at}
 
--- ---- what every reading looks for first
+-- ---- a header that was read
 
-module _ (ys : List ℕ) where
-  abbrev needed : ℕ
-  needed = sheet_length (points ys) (coords ys) (width ys) (ask_count ys)
-
-  pub short : length ys < 3 → 15 ≡ sheet_refusal ys
-  unfolding sheet_refusal
-  short h = rw (lt-ltb (length ys) 3 h)
-
-  module _ (header : 3 ≤ length ys) where
-    many-asks : 127 < ask_count ys → 12 ≡ sheet_refusal ys
-    unfolding sheet_refusal
-    many-asks h = rw (le-ltb (length ys) 3 header, lt-ltb 127 (ask_count ys) h)
-
-    module _ (few : ask_count ys ≤ 127) where
-      too_short : length ys < needed → 15 ≡ sheet_refusal ys
-      unfolding sheet_refusal
-      too_short h = rw (le-ltb (length ys) 3 header, le-ltb 127 (ask_count ys) few, lt-ltb (length ys) needed h)
-
-      too_long : needed < length ys → 16 ≡ sheet_refusal ys
-      unfolding sheet_refusal
-      too_long h =
-          rw (le-ltb (length ys) 3 header, le-ltb 127 (ask_count ys) few, le-ltb (length ys) needed (omega arith), lt-ltb needed (length ys) h)
-
-      filled_in : needed ≡ length ys → 0 < filling ys → 16 ≡ sheet_refusal ys
-      unfolding sheet_refusal
-      filled_in e h =
-          rw (
-            le-ltb (length ys) 3 header,
-            le-ltb 127 (ask_count ys) few,
-            le-ltb (length ys) needed (omega arith),
-            le-ltb needed (length ys) (omega arith),
-            lt-ltb 0 (filling ys) h,
-          )
-
--- ---- by the header that was read
-
-module _ (ys : List ℕ) (h : Head) (is : h ≡ head_of ys) where
-  pub n-is : h.n ≡ points ys
-  n-is = ap (λ (x : Head). x.n) is
-
-  pub d-is : h.d ≡ coords ys
-  d-is = ap (λ (x : Head). x.d) is
-
-  pub c-is : h.c ≡ width ys
-  c-is = ap (λ (x : Head). x.c) is
-
-  pub asks-is : h.asks ≡ ask_count ys
-  asks-is = ap (λ (x : Head). x.asks) is
-
+module _ (ys : List ℕ) (h : Head) (said : h ≡ head_of ys) where
   pub head_small : (h.n ≤ 128) × (h.d ≤ 64) × (1 ≤ h.c) × (h.c ≤ 8)
-  head_small = omega (arith, n-is, d-is, c-is, points-small ys, coords-small ys, width_small ys)
+  head_small =
+      omega (arith, ap (λ (x : Head). x.n) said, ap (λ (x : Head). x.d) said, ap (λ (x : Head). x.c) said, points-small ys, coords-small ys, width_small ys)
 
-  pub product_small : h.n * h.d ≤ 8192
-  product_small = small_product h.n h.d head_small.0 head_small.1
+  pub products_small : (i : ℕ) → i ≤ 127 → FewProducts h.n h.d h.c i
+  products_small i few = few_products h.n h.d h.c i head_small.0 head_small.1 head_small.3 few
 
-  pub asks-over : 3 ≤ length ys → 127 < h.asks → 12 ≡ sheet_refusal ys
-  asks-over header l = many-asks ys header (omega (arith, asks-is))
+  -- the vectors' cells, and the bits that their values take
+  pub vectors_small : (cells : ℕ) → cells ≡ h.n * h.d → 24 + cells * h.c < 2 ^ 20
+  vectors_small cells e =
+      let f : cells * h.c ≡ h.n * h.d * h.c = ap (λ (x : ℕ). x * h.c) e in
+      omega (arith, products_small 0 (omega arith))
 
--- the header was read, it says few asks, and its bits were counted
-pub record Counted (ys : List ℕ) (h : Head) (bits : ℕ) : Type 0 where
-  pub head : h ≡ head_of ys
-  pub header : 3 ≤ length ys
-  pub few : h.asks ≤ 127
-  pub count : bits ≡ bit_count h.n h.d h.c h.asks
+  -- an ask's place, and the bits that its query's values take
+  pub query_small : (i place cells : ℕ) → i < h.asks → h.asks ≤ 127 → place ≡ bit_count h.n h.d h.c i → cells ≡ h.d → place + 36 + cells * h.c < 2 ^ 20
+  unfolding bit_count
+  query_small i place cells l few is e =
+      let f : cells * h.c ≡ h.d * h.c = ap (λ (x : ℕ). x * h.c) e in
+      omega (arith, products_small i (omega arith))
 
-module _ {ys : List ℕ} {h : Head} {bits : ℕ} (k : Counted ys h bits) where
-  bits_are : bits ≡ required ys
-  unfolding required
-  bits_are = k.count ∙ rw (n-is ys h k.head, d-is ys h k.head, c-is ys h k.head, asks-is ys h k.head)
+-- ---- fields that are read from a place on
 
-  bytes_are : (bits + 7) / 8 ≡ needed ys
-  unfolding sheet_length byte_count required
-  bytes_are = ap (λ (x : ℕ). (x + 7) / 8) bits_are
+module _ (p : Place) (small : p.next < 2 ^ 20) where
+  -- the place that stands k bits further on
+  pub record After (k : ℕ) (q : Place) : Type 0 where
+    pub same : q.sheet ≡ p.sheet
+    pub next : q.next ≡ p.next + k
 
-  few-asks : ask_count ys ≤ 127
-  few-asks = omega (arith, k.few, asks-is ys h k.head)
+  pub after_more : (k w : ℕ) (q r : Place) → k + w ≤ 36 → After k q → r.sheet ≡ q.sheet → r.next ≡ past_at q.next w → After (k + w) r
+  after_more k w q r few a same next = record { same = same ∙ a.same; next = omega (arith, a.next, next) }
 
-  pub length-under : length ys < (bits + 7) / 8 → 15 ≡ sheet_refusal ys
-  length-under l = too_short ys k.header few-asks (omega (arith, bytes_are))
+  pub field_after : (k w : ℕ) (q : Place) → After k q → field_at q.sheet.now q.next w ≡ number (take w (drop k (drop p.next (unpacked p.sheet.now))))
+  unfolding field_at
+  field_after k w q a = rw (a.same, a.next, drop-drop k p.next (unpacked p.sheet.now))
 
-  pub length_over : (bits + 7) / 8 < length ys → 16 ≡ sheet_refusal ys
-  length_over l = too_long ys k.header few-asks (omega (arith, bytes_are))
+  -- four numbers of an ask
+  module _ (q₁ q₂ q₃ : Place) {s w k t : ℕ} (s₁ : q₁.sheet ≡ p.sheet) (m₁ : q₁.next ≡ past_at p.next 7) (s₂ : q₂.sheet ≡ q₁.sheet) (m₂ : q₂.next ≡ past_at q₁.next 7)
+      (s₃ : q₃.sheet ≡ q₂.sheet) (m₃ : q₃.next ≡ past_at q₂.next 7) where
+    pub numbers_read : s ≡ field_at p.sheet.now p.next 7 → w ≡ field_at q₁.sheet.now q₁.next 7 → k ≡ field_at q₂.sheet.now q₂.next 7 → t ≡ field_at q₃.sheet.now q₃.next 15
+        → s ∷ (w + 1) ∷ (k + 1) ∷ t ∷ [] ≡ numbers_in (drop p.next (unpacked p.sheet.now))
+    unfolding numbers_in
+    numbers_read es ew ek et =
+        let a₀ : After 0 p = record { same = refl; next = omega arith } in
+        let a₁ : After 7 q₁ = after_more 0 7 p q₁ (omega arith) a₀ s₁ m₁ in
+        let a₂ : After 14 q₂ = after_more 7 7 q₁ q₂ (omega arith) a₁ s₂ m₂ in
+        let a₃ : After 21 q₃ = after_more 14 7 q₂ q₃ (omega arith) a₂ s₃ m₃ in
+        let f₀ = es ∙ field_after 0 7 p a₀ in
+        let f₁ = ew ∙ field_after 7 7 q₁ a₁ in
+        let f₂ = ek ∙ field_after 14 7 q₂ a₂ in
+        let f₃ = et ∙ field_after 21 15 q₃ a₃ in
+        cc
 
-  -- the length is as required: the filling is the field of what is left of the last byte
-  module _ (less : (bits + 7) / 8 ≤ length ys) (more : length ys ≤ (bits + 7) / 8) {rest : ℕ}
-      (is-rest : rest ≡ field_at ys bits (min (length ys * 8 - bits) 16)) where
-    rest-is : rest ≡ filling ys
-    unfolding filling
-    rest-is =
-        let e : min (length ys * 8 - bits) 16 ≡ length ys * 8 - bits = omega arith in
-        is-rest ∙ ap (field_at ys bits) e ∙ ap (λ (b : ℕ). field_at ys b (length ys * 8 - b)) bits_are
+-- a field of 7 bits has room for one more
+pub seven : (ys : List ℕ) (at : ℕ) {v : ℕ} → v ≡ field_at ys at 7 → Fits w16 (v + 1)
+seven ys at e = record { fits = omega (arith, e, field_lt ys at 7) }
 
-    pub filling-set : 0 < rest → 16 ≡ sheet_refusal ys
-    filling-set l = filled_in ys k.header few-asks (omega (arith, bytes_are)) (omega (arith, rest-is))
+-- ---- one ask: what is read at its place
 
-    pub filling_clear : rest ≤ 0 → 0 ≡ sheet_refusal ys
-    unfolding sheet_length required
-    filling_clear l =
-        sym (read_none ys record { header = k.header; few-asks = few-asks; long = omega (arith, bytes_are); unfilled = omega (arith, rest-is) })
+module _ (ys : List ℕ) (h : Head) (said : h ≡ head_of ys) (i : ℕ) where
+  place_is : bit_count h.n h.d h.c i ≡ ask_place ys i
+  unfolding bit_count ask_place
+  place_is = rw said
 
--- ---- then the vectors, or one ask
-
-module _ (ys : List ℕ) {r : ℕ} (is : r ≡ sheet_refusal ys) (some : r ≢ 0) where
-  pub vectors-none : (room : ℕ) → r ≡ vectors_refusal ys room
-  unfolding vectors_refusal
-  vectors-none room = is ∙ sym (else_some (λ z. some (is ∙ z)) _)
-
-  pub ask-none : (number room : ℕ) → r ≡ one_ask_refusal ys number room
+  pub ask_free : (room : ℕ) → 0 ≡ sheet_refusal ys → i < h.asks → room ≡ h.d → 0 ≡ one_ask_refusal ys i room
   unfolding one_ask_refusal
-  ask-none number room = is ∙ sym (else_some (λ z. some (is ∙ z)) _)
+  ask_free room none l e =
+      sym (else_none (sym none) _ ∙ rw (lt-leb (ask_count ys) i (rw said at l), eq-eqb room (coords ys) (rw said at e)))
 
--- the sheet is not refused, and its header was read
-pub record HeaderRead (ys : List ℕ) (h : Head) : Type 0 where
-  pub free : sheet_refusal ys ≡ 0
-  pub head : h ≡ head_of ys
+  module _ (p : Place) (of : p.sheet.now ≡ ys) where
+    pub ask_is : (a : Numbers) → p.next ≡ bit_count h.n h.d h.c i → row_of a ≡ numbers_in (drop p.next (unpacked p.sheet.now))
+        → four_of a ≡ numbers_of (ask_numbers ys i)
+    unfolding numbers_of ask_numbers
+    ask_is a is row = rw (is, of, place_is) at (ap numbers_of row)
 
-module _ {ys : List ℕ} {h : Head} (k : HeaderRead ys h) (room : ℕ) where
-  product_is : h.n * h.d ≡ points ys * coords ys
-  product_is = rw (n-is ys h k.head, d-is ys h k.head)
-
-  pub vectors_other : room ≢ h.n * h.d → 3 ≡ vectors_refusal ys room
-  unfolding vectors_refusal
-  vectors_other d = sym (else_none k.free _ ∙ rw (ne_eqb room (points ys * coords ys) (λ e. d (e ∙ sym product_is))))
-
-  pub vectors_fit : room ≡ h.n * h.d → 0 ≡ vectors_refusal ys room
-  unfolding vectors_refusal
-  vectors_fit e = sym (else_none k.free _ ∙ rw (eq-eqb room (points ys * coords ys) (e ∙ product_is)))
-
-  -- the ask's number is widened before it is tested
-  module _ {wide number : ℕ} (same : wide ≡ number) where
-    pub ask-over : h.asks ≤ wide → 17 ≡ one_ask_refusal ys number room
-    unfolding one_ask_refusal
-    ask-over l = sym (else_none k.free _ ∙ rw (le-leb (ask_count ys) number (omega (arith, asks-is ys h k.head))))
-
-    module _ (l : wide < h.asks) where
-      there : leb (ask_count ys) number ≡ false
-      there = lt-leb (ask_count ys) number (omega (arith, asks-is ys h k.head))
-
-      pub ask_other : room ≢ h.d → 5 ≡ one_ask_refusal ys number room
-      unfolding one_ask_refusal
-      ask_other d = sym (else_none k.free _ ∙ rw (there, ne_eqb room (coords ys) (λ e. d (e ∙ sym (d-is ys h k.head)))))
-
-      pub ask-fits : room ≡ h.d → 0 ≡ one_ask_refusal ys number room
-      unfolding one_ask_refusal
-      ask-fits e = sym (else_none k.free _ ∙ rw (there, eq-eqb room (coords ys) (e ∙ d-is ys h k.head)))
+    pub query_is : (cells : ℕ) → cells ≡ h.d → p.next ≡ bit_count h.n h.d h.c i + 36
+        → values h.c cells (drop p.next (unpacked p.sheet.now)) ≡ ask_query ys i
+    unfolding ask_query
+    query_is cells e is =
+        rw (is, of, e, place_is, said) (ap (values (width ys) (coords ys)) (sym (drop-drop 36 (ask_place ys i) (unpacked ys))))

@@ -1,90 +1,65 @@
--- The writer's refusals: ask by ask, and the whole order, over what the code has in hand. Assumes nothing.
-use mathlib.Core.Path.{◌≡◌, sym, ap, ◌∙◌}
-use mathlib.Core.Logic.{◌≢◌}
-use mathlib.Core.Bool.{true, false}
-use mathlib.Core.List.{List, [], ◌∷◌}
-use Prim.Native.Nat.{ℕ, suc, ◌+◌, ◌-◌, ◌*◌, ◌/◌, ◌≤◌, ◌<◌}
-use native.Mathlib.Omega.{arith}
-use lib.ListN.{drop, get_or}
-use lib.Seq.{get_or-drop, drop-drop}
-use borrow.Author.Tests.{lt-ltb, le-ltb}
-use Rattle.rules.specs.Bits.{all_fit, byte_count}
-use Rattle.rules.specs.Sheet.{Contents, bit_count, sheet_length}
+-- The writer's refusals: ask by ask, and what is known where there is none. Assumes nothing.
+use Rattle.std.proofs.Common.{◌≡◌, ℕ, suc, ◌/◌, ◌<◌, true, List, [], ◌∷◌, ◌++◌, length, sym, ap, ◌∙◌, arith}
+use Rattle.rules.specs.Bits.{all_fit}
+use Rattle.rules.specs.Sheet.{Contents}
 use Rattle.rules.specs.Outcome.{or_else}
 use Rattle.rules.specs.Refusals.{ask_refusal, asks_refusal}
-use Rattle.laws.proofs.Refusals.{else_none, else_some}
+use Rattle.laws.proofs.Refusals.{else_none}
 use Rattle.laws.proofs.Numbers.{asks-suc}
-use Rattle.laws.proofs.Writable.{shape_of, asks_of, length_of, last_of, refusal_at, in_parts}
+use Rattle.laws.proofs.Writable.{Writable, shape_of, shaped}
+use Rattle.space.specs.declared.refusal.Refusal.{Refusal}
+use Rattle.space.specs.Told.{number}
+use Rattle.space.proofs.Told.{stopped}
 
--- ---- one ask
+-- the refusal of as many asks as there are rows of four numbers
+abbrev pub rows_refusal : List ℕ → ℕ
+rows_refusal ns = asks_refusal (length ns / 4) ns
 
--- the numbers that stand from j on
-pub ask-at : (ns : List ℕ) (j : ℕ)
-    → ask_refusal (get_or ns j 0 ∷ get_or ns (j + 1) 0 ∷ get_or ns (j + 2) 0 ∷ get_or ns (j + 3) 0 ∷ []) ≡ ask_refusal (drop j ns)
+-- one ask, and then the others
+pub ask_first : (row rest : List ℕ) → length row ≡ 4 → rows_refusal (row ++ rest) ≡ or_else (ask_refusal row) (rows_refusal rest)
 unfolding ask_refusal
-ask-at ns j =
-    let z : j + 0 ≡ j = omega arith in
-    rw (get_or-drop j ns 0 0, get_or-drop j ns 1 0, get_or-drop j ns 2 0, get_or-drop j ns 3 0, z)
+ask_first [] rest e = absurd (omega arith)
+ask_first (a ∷ []) rest e = absurd (omega arith)
+ask_first (a ∷ b ∷ []) rest e = absurd (omega arith)
+ask_first (a ∷ b ∷ c ∷ []) rest e = absurd (omega arith)
+ask_first (a ∷ b ∷ c ∷ d ∷ []) rest e =
+    let ns = a ∷ b ∷ c ∷ d ∷ rest in
+    let n : length ns / 4 ≡ suc (length rest / 4) = omega arith in
+    ap (λ (k : ℕ). asks_refusal k ns) n ∙ asks-suc (length rest / 4) ns
+ask_first (a ∷ b ∷ c ∷ d ∷ x ∷ row) rest e = absurd (omega arith)
 
--- ---- ask by ask
+-- `left` is what is left to look at, `all` the asks' refusal
+module _ (left row rest : List ℕ) {all : ℕ} (so_far : rows_refusal left ≡ all) (is : left ≡ row ++ rest) (four : length row ≡ 4) where
+  order : all ≡ or_else (ask_refusal row) (rows_refusal rest)
+  order = sym so_far ∙ ap rows_refusal is ∙ ask_first row rest four
 
-module _ (asks i : ℕ) (ns : List ℕ) (h : i < asks) where
-  ask-next : asks_refusal (asks - i) (drop (i * 4) ns) ≡ or_else (ask_refusal (drop (i * 4) ns)) (asks_refusal (asks - (i + 1)) (drop ((i + 1) * 4) ns))
-  ask-next =
-      let e : asks - i ≡ suc (asks - (i + 1)) = omega arith in
-      let f : (i + 1) * 4 ≡ i * 4 + 4 = omega arith in
-      ap (λ (a : ℕ). asks_refusal a (drop (i * 4) ns)) e
-      ∙ asks-suc (asks - (i + 1)) (drop (i * 4) ns)
-      ∙ rw (f, drop-drop 4 (i * 4) ns)
+  pub ask_stops : (r : Refusal) → number r ≡ ask_refusal row → number r ≡ all
+  ask_stops r e = stopped r _ order e
 
-  pub ask_stops : {r : ℕ} → r ≡ ask_refusal (drop (i * 4) ns) → r ≢ 0 → r ≡ asks_refusal (asks - i) (drop (i * 4) ns)
-  ask_stops e d = e ∙ sym (ask-next ∙ else_some (λ z. d (e ∙ z)) _)
+  pub ask_passes : 0 ≡ ask_refusal row → rows_refusal rest ≡ all
+  ask_passes e = sym (order ∙ else_none (sym e) _)
 
-  pub ask_passes : {r : ℕ} → r ≡ ask_refusal (drop (i * 4) ns) → r ≡ 0
-      → asks_refusal (asks - (i + 1)) (drop ((i + 1) * 4) ns) ≡ asks_refusal (asks - i) (drop (i * 4) ns)
-  ask_passes e z = sym (ask-next ∙ else_none (sym e ∙ z) _)
-
-pub asks-done : (asks i : ℕ) (ns : List ℕ) → asks ≤ i → asks_refusal (asks - i) (drop (i * 4) ns) ≡ 0
+pub asks_done : (left : List ℕ) {all : ℕ} → rows_refusal left ≡ all → length left < 4 → 0 ≡ all
 unfolding asks_refusal
-asks-done asks i ns h = let e : asks - i ≡ 0 = omega arith in rw (e, asks_refusal)
+asks_done left so_far few = let e : length left / 4 ≡ 0 = omega arith in rw (e, asks_refusal) at so_far
 
-pub asks-start : (asks : ℕ) (ns : List ℕ) → asks_refusal (asks - 0) (drop (0 * 4) ns) ≡ asks_refusal asks ns
-asks-start asks ns = let e : asks - 0 ≡ asks = omega arith in rw e
-
--- ---- the whole order: each refusal, where those before it did not come
-
-module _ (k : Contents) (output : ℕ) where
-  abbrev due : ℕ
-  due = refusal_at k output
-
-  pub by_shape : {r : ℕ} → r ≡ shape_of k → r ≢ 0 → r ≡ due
-  by_shape e d = e ∙ sym (in_parts k output ∙ else_some (λ z. d (e ∙ z)) _)
-
-  module _ (shape-ok : shape_of k ≡ 0) where
-    then_asks : due ≡ or_else (asks_of k) (last_of k output)
-    then_asks = in_parts k output ∙ else_none shape-ok _
-
-    pub by-asks : {r : ℕ} → r ≡ asks_of k → r ≢ 0 → r ≡ due
-    by-asks e d = e ∙ sym (then_asks ∙ else_some (λ z. d (e ∙ z)) _)
-
-    module _ (asks-ok : asks_of k ≡ 0) where
-      then_last : due ≡ last_of k output
-      then_last = then_asks ∙ else_none asks-ok _
-
-      pub by-vectors : all_fit k.c k.vectors ≡ false → 13 ≡ due
-      by-vectors e = sym (then_last ∙ rw e)
-
-      module _ (vectors_fit : all_fit k.c k.vectors ≡ true) where
-        pub by-queries : all_fit k.c k.queries ≡ false → 13 ≡ due
-        by-queries e = sym (then_last ∙ rw (vectors_fit, e))
-
-        module _ (queries_fit : all_fit k.c k.queries ≡ true) {bits : ℕ} (count : bits ≡ bit_count k.n k.d k.c k.asks) where
-          bytes_are : (bits + 7) / 8 ≡ length_of k
-          unfolding sheet_length byte_count
-          bytes_are = ap (λ (x : ℕ). (x + 7) / 8) count
-
-          pub by_room : output < (bits + 7) / 8 → 14 ≡ due
-          by_room h = sym (then_last ∙ rw (vectors_fit, queries_fit, lt-ltb output (length_of k) (omega (arith, bytes_are))))
-
-          pub by-none : (bits + 7) / 8 ≤ output → 0 ≡ due
-          by-none h = sym (then_last ∙ rw (vectors_fit, queries_fit, le-ltb output (length_of k) (omega (arith, bytes_are))))
+-- contents whose shape, asks and values give no refusal can be written
+pub accepted : (k : Contents) → 0 ≡ shape_of k → 0 ≡ rows_refusal k.numbers → all_fit k.c k.vectors ≡ true → all_fit k.c k.queries ≡ true → Writable k
+accepted k shape given vectors queries =
+    let s = shaped k (sym shape) in
+    let n : length k.numbers / 4 ≡ k.asks = omega (arith, s.numbers_are) in
+    record {
+      some-points = s.points.0;
+      few-points = s.points.1;
+      some-coordinates = s.coordinates.0;
+      few-coordinates = s.coordinates.1;
+      some-width = s.width.0;
+      few-width = s.width.1;
+      few-asks = s.asks-few;
+      numbers_are = s.numbers_are;
+      vectors_are = s.vectors_are;
+      queries_are = s.queries_are;
+      asks_fit = rw n at (sym given);
+      vectors_fit = vectors;
+      queries_fit = queries;
+    }

@@ -1,175 +1,161 @@
--- A value as the logic's signed operations leave it, and two's complement. Assumes nothing.
-use mathlib.Core.Path.{◌≡◌, refl, sym, ap, ◌∙◌, subst}
-use mathlib.Core.Bool.{Bool, true, false, ◌&&◌}
-use mathlib.Core.List.{List}
-use Prim.Native.Nat.{ℕ, zero, suc, ◌+◌, ◌-◌, ◌*◌, ◌%◌, ◌^◌, ◌≤◌, ◌<◌}
-use native.Mathlib.Omega.{arith}
-use lib.Dec.{T, ltb}
-use lib.Pow.{pow_pos, pow_mono}
-use lib.ListN.{length, drop, get_or, drop_of_length-le}
-use lib.Seq.{drop-cons}
-use lib.IntN.{ℤ, pos, negsuc, ◌-ℤ◌, nat_abs}
-use lib.Signed.{lt_z, non_neg, mag}
+-- Values of c bits: their sign, and whether they fit. Assumes nothing.
+use Rattle.std.proofs.Common.{◌≡◌, ℕ, zero, suc, ◌+◌, ◌-◌, ◌*◌, ◌/◌, ◌%◌, ◌^◌, ◌≤◌, ◌<◌, Bool, true, false, ◌&&◌, cond, Less, Equal, Greater, List, [], ◌∷◌, ℤ, pos, negsuc, ltb, sym, ap, refl, ◌∙◌, arith}
+use Rattle.std.specs.Ordering.{is_le, is_lt, int_cmp}
+use Rattle.std.specs.List.{list_all}
+use lib.IntN.{◌-ℤ◌}
+use lib.Pow.{suc_ones, pow_pos, pow_mono, pow-add, shl-shr, shl_lt}
+use lib.Signed.{shr_z, lt_z}
+use native.Mathlib.Nat.{lt_of_lt_of_le, mod-eq_of_lt, mul-le-mul_right, mul-lt-mul_of_pos_right}
+use Rattle.std.proofs.lemmas.Nat.{div-mul-add, one_shl}
+use Rattle.std.proofs.lemmas.Int.{ints, to_z_pos, of_z-to_z}
 use borrow.Author.Tests.{lt-ltb, le-ltb, ltb-true}
-use mir.Syntax.{w8, w32}
-use mir.Val.{Fits, SFits, to_z, of_z}
+use mathlib.Core.Logic.{⊎_elim}
+use mir.Syntax.{w8, w16}
+use mir.Val.{SFits, to_z, of_z}
 use mir.ValLaws.{to_z-of_z}
-use Rattle.rules.specs.Bits.{signed, signed_by, twos, fits, all_fit}
+use Rattle.rules.specs.Bits.{bits, twos, signed, signed_by, fits, all_fit}
+use Rattle.laws.proofs.Tests.{le_or_lt}
+use Rattle.laws.proofs.Bits.{bits_above}
 use Rattle.laws.proofs.Values.{half}
-use Rattle.sheet.proofs.Shifts.{shifted, power_one}
 
--- ---- a magnitude below 128 with either sign
+abbrev fits_half : ℕ → ℤ → Bool
+fits_half H (pos n) = ltb n H
+fits_half H (negsuc n) = ltb n H
 
-minus : (m : ℕ) → negsuc 0 -ℤ pos m ≡ negsuc m
-minus zero = refl
-minus (suc n) = let e : 0 + n ≡ n = omega arith in rw e
+-- ---- the sign that shifts bring along
 
-module _ (m : ℕ) (small : m < 128) where
-  pub above_fits : SFits w8 (pos m)
-  above_fits = record { sfits = small }
+module _ (c u : ℕ) (some : 1 ≤ c) (few : c ≤ 8) (small : u < 2 ^ c) where
+  -- moved to the byte's front
+  abbrev front : ℕ
+  front = u * 2 ^ (8 - c) % 65536
 
-  below-fits : SFits w8 (negsuc m)
-  below-fits = record { sfits = small }
+  front_lt : u * 2 ^ (8 - c) < 256
+  front_lt = let e : c + (8 - c) ≡ 8 = omega arith in rw e at (shl_lt c (8 - c) small)
 
-  pub above_is : to_z w8 m ≡ pos m
-  above_is = to_z-of_z w8 (pos m) above_fits
+  front_is : front ≡ u * 2 ^ (8 - c)
+  front_is = let h : u * 2 ^ (8 - c) < 65536 = omega (arith, front_lt) in mod-eq_of_lt h
 
-  minus_is : negsuc 0 -ℤ to_z w8 m ≡ negsuc m
-  minus_is = ap (λ (z : ℤ). negsuc 0 -ℤ z) above_is ∙ minus m
+  pub front_small : front < 256
+  front_small = rw front_is front_lt
 
-  pub minus_fits : SFits w8 (negsuc 0 -ℤ to_z w8 m)
-  minus_fits = subst (λ (z : ℤ). SFits w8 z) (sym minus_is) below-fits
+  -- 256 is 2 ^ c times what the front was moved by
+  whole : 2 ^ c * 2 ^ (8 - c) ≡ 256
+  whole = let e : c + (8 - c) ≡ 8 = omega arith in rw (← (pow-add 2 c (8 - c)), e)
 
-  pub below-is : to_z w8 (of_z w8 (negsuc 0 -ℤ to_z w8 m)) ≡ negsuc m
-  below-is = ap (λ (z : ℤ). to_z w8 (of_z w8 z)) minus_is ∙ to_z-of_z w8 (negsuc m) below-fits
+  halves : 2 ^ (c - 1) * 2 ^ (8 - c) ≡ 128
+  halves = let e : c - 1 + (8 - c) ≡ 7 = omega arith in rw (← (pow-add 2 (c - 1) (8 - c)), e)
 
--- ---- the halves of c bits
+  -- what an upper half's complement is
+  upper : (255 - u * 2 ^ (8 - c)) / 2 ^ (8 - c) ≡ 2 ^ c - suc u
+  upper =
+      let P = 2 ^ (8 - c) in
+      let one : 1 ≤ P = pow_pos (8 - c) in
+      let m : 2 ^ c - suc u + suc u ≡ 2 ^ c = omega arith in
+      let w : (2 ^ c - suc u) * P + suc u * P ≡ 256 = omega (arith, ap (λ (n : ℕ). n * P) m, whole) in
+      let e : 255 - u * P ≡ (2 ^ c - suc u) * P + (P - 1) = omega arith in
+      rw e (div-mul-add (2 ^ c - suc u) P (P - 1) (omega arith))
 
-module _ (c : ℕ) (some : 1 ≤ c) (few : c ≤ 8) where
-  abbrev H : ℕ
-  H = 1 * 2 ^ (c - 1) % 65536
+  abbrev F : ℕ
+  F = u * 2 ^ (8 - c)
 
-  small_half : 2 ^ (c - 1) ≤ 128
-  small_half = pow_mono {j = 7} (omega arith)
+  -- the shift back, of a value that is read from its bits before and after
+  moved : (z y : ℤ) → to_z w8 F ≡ z → shr_z z (2 ^ (8 - c)) ≡ y → SFits w8 y
+      → to_z w8 (of_z w8 (shr_z (to_z w8 (of_z w8 (to_z w8 F))) (2 ^ (8 - c)))) ≡ y
+  moved z y e s f =
+      rw (of_z-to_z w8 F front_lt, e, s) (to_z-of_z w8 y f)
 
-  pub half_is : H ≡ 2 ^ (c - 1)
-  half_is = shifted (c - 1) 65536 (omega (arith, small_half))
+  lower : u < 2 ^ (c - 1) → to_z w8 (of_z w8 (shr_z (to_z w8 (of_z w8 (to_z w8 F))) (2 ^ (8 - c)))) ≡ pos u
+  lower h =
+      let m : 2 ^ (c - 1) ≤ 128 = pow_mono {j = 7} (omega arith) in
+      let l : F < 128 = rw halves at (mul-lt-mul_of_pos_right h (pow_pos (8 - c))) in
+      moved (pos F) (pos u) (to_z_pos w8 F l) (ap pos (shl-shr u (8 - c))) (record { sfits = omega arith })
 
-  pub half_small : (1 ≤ H) × (H ≤ 128)
-  half_small = omega (arith, half_is, small_half, pow_pos (c - 1))
+  higher : 2 ^ (c - 1) ≤ u → to_z w8 (of_z w8 (shr_z (to_z w8 (of_z w8 (to_z w8 F))) (2 ^ (8 - c)))) ≡ negsuc (2 ^ c - suc u)
+  higher h =
+      let m : 2 ^ (c - 1) ≤ 128 = pow_mono {j = 7} (omega arith) in
+      let l : 128 ≤ F = rw halves at (mul-le-mul_right (2 ^ (8 - c)) h) in
+      let e : 256 - suc F ≡ 255 - F = omega arith in
+      moved (negsuc (256 - suc F)) (negsuc (2 ^ c - suc u)) (rw (le-ltb F 128 l)) (ap negsuc (ap (λ (n : ℕ). n / 2 ^ (8 - c)) e ∙ upper))
+      (record { sfits = omega (arith, half c some) })
 
-  pub twice : 2 ^ c ≡ H * 2
-  twice = omega (arith, half_is, half c some)
-
-  pub lower_half : (u : ℕ) → u < H → pos u ≡ signed c u
+  pub sign_is : {z : ℤ} → z ≡ to_z w8 front → to_z w8 (of_z w8 (shr_z (to_z w8 (of_z w8 z)) (2 ^ (8 - c)))) ≡ signed c u
   unfolding signed signed_by
-  lower_half u h = let l : u < 2 ^ (c - 1) = omega (arith, half_is) in rw (lt-ltb u (2 ^ (c - 1)) l)
+  sign_is is =
+      rw (is, front_is)
+      (⊎_elim
+      (λ (h : 2 ^ (c - 1) ≤ u). higher h ∙ rw (le-ltb u (2 ^ (c - 1)) h))
+      (λ (h : u < 2 ^ (c - 1)). lower h ∙ rw (lt-ltb u (2 ^ (c - 1)) h))
+      (le_or_lt (2 ^ (c - 1)) u))
 
-  pub upper_half : (u : ℕ) → H ≤ u → u < 2 ^ c → negsuc (H * 2 - 1 - u) ≡ signed c u
-  unfolding signed signed_by
-  upper_half u h t =
-      let l : 2 ^ (c - 1) ≤ u = omega (arith, half_is) in
-      let e : H * 2 - 1 - u ≡ 2 ^ c - suc u = omega (arith, twice) in
-      rw (le-ltb u (2 ^ (c - 1)) l, e)
+-- ---- the code of a value that fits
 
--- ---- the magnitude of a value, by the test that the code makes
+-- the last c bits of the two's complement in eight bits are those of the two's complement in c bits
+pub bits_eight : (c : ℕ) (z : ℤ) → c ≤ 8 → fits c z ≡ true → bits c (twos 8 z) ≡ bits c (twos c z)
+unfolding twos fits
+bits_eight c (pos n) h f = refl
+bits_eight c (negsuc n) h f =
+    let s : 8 - c + c ≡ 8 = omega arith in
+    let g : 256 ≡ suc (2 ^ (8 - c) - 1) * 2 ^ c = rw (suc_ones (8 - c), ← (pow-add 2 (8 - c) c), s) in
+    let m : n < 2 ^ (c - 1) = ltb-true n (2 ^ (c - 1)) f in
+    let l : suc n ≤ 2 ^ c = lt_of_lt_of_le m (pow_mono {i = c - 1} {j = c} (omega arith)) in
+    let e : 256 - suc n ≡ (2 ^ (8 - c) - 1) * 2 ^ c + (2 ^ c - suc n) = omega (arith, g) in
+    ap (bits c) e ∙ bits_above c (2 ^ (8 - c) - 1) (2 ^ c - suc n)
 
--- -1 - z, as it is computed
-abbrev flipped : ℤ → ℤ
-flipped z = negsuc 0 -ℤ to_z w8 (of_z w8 z)
+-- ---- whether a value fits: it is from -H to H - 1, where H is 2 ^ (c - 1)
 
-abbrev Below : ℤ → Bool → Type 0
-Below z b = lt_z (to_z w8 (of_z w8 z)) (pos 0) ≡ b
-
-not-below : (n : ℕ) → SFits w8 (pos n) → Below (pos n) true → ⊥
-not-below n f t =
-    let e : ltb n 0 ≡ true = ap (λ (x : ℤ). lt_z x (pos 0)) (sym (to_z-of_z w8 (pos n) f)) ∙ t in
-    omega (arith, ltb-true n 0 e)
-
-is_below : (n : ℕ) → SFits w8 (negsuc n) → Below (negsuc n) false → ⊥
-is_below n f t =
-    let e : true ≡ false = ap (λ (x : ℤ). lt_z x (pos 0)) (sym (to_z-of_z w8 (negsuc n) f)) ∙ t in
-    let z : ◌≡◌ {A = ℕ} 0 1 = cc in
-    omega arith
-
-flip : (n : ℕ) → negsuc 0 -ℤ negsuc n ≡ pos n
-flip n = let e : suc n - 1 ≡ n = omega arith in rw (le-ltb (suc n) 1 (omega arith), e)
-
-module _ (n : ℕ) (f : SFits w8 (negsuc n)) where
-  flipped_is : flipped (negsuc n) ≡ pos n
-  flipped_is = ap (λ (x : ℤ). negsuc 0 -ℤ x) (to_z-of_z w8 (negsuc n) f) ∙ flip n
-
-  -- and read again from its bits
-  flipped_again : to_z w8 (of_z w8 (flipped (negsuc n))) ≡ pos n
-  flipped_again = ap (λ (x : ℤ). to_z w8 (of_z w8 x)) flipped_is ∙ to_z-of_z w8 (pos n) (record { sfits = f.sfits })
-
-pub flipped_fits : (z : ℤ) → SFits w8 z → Below z true → SFits w8 (flipped z)
-flipped_fits (pos n) f t = absurd (not-below n f t)
-flipped_fits (negsuc n) f t = subst (λ (x : ℤ). SFits w8 x) (sym (flipped_is n f)) (record { sfits = f.sfits })
-
-abbrev Casts : ℤ → Type 0
-Casts x = T (non_neg x) × Fits w32 (nat_abs x)
-
-pub flipped_cast : (z : ℤ) → SFits w8 z → Below z true → Casts (to_z w8 (of_z w8 (flipped z)))
-flipped_cast (pos n) f t = absurd (not-below n f t)
-flipped_cast (negsuc n) f t = subst Casts (sym (flipped_again n f)) (tt, record { fits = omega (arith, f.sfits) })
-
-pub plain_cast : (z : ℤ) → SFits w8 z → Below z false → Casts (to_z w8 (of_z w8 z))
-plain_cast (pos n) f t = subst Casts (sym (to_z-of_z w8 (pos n) f)) (tt, record { fits = omega (arith, f.sfits) })
-plain_cast (negsuc n) f t = absurd (is_below n f t)
-
-abbrev Magnitude : ℤ → ℤ → Type 0
-Magnitude z x = (nat_abs x ≡ mag z) × (nat_abs x < 128)
-
-pub flipped_magnitude : (z : ℤ) → SFits w8 z → Below z true → Magnitude z (to_z w8 (of_z w8 (flipped z)))
-flipped_magnitude (pos n) f t = absurd (not-below n f t)
-flipped_magnitude (negsuc n) f t = subst (Magnitude (negsuc n)) (sym (flipped_again n f)) (refl, f.sfits)
-
-pub plain_magnitude : (z : ℤ) → SFits w8 z → Below z false → Magnitude z (to_z w8 (of_z w8 z))
-plain_magnitude (pos n) f t = subst (Magnitude (pos n)) (sym (to_z-of_z w8 (pos n) f)) (refl, f.sfits)
-plain_magnitude (negsuc n) f t = absurd (is_below n f t)
-
--- a value reaches the code through its bits
-abbrev again : ℤ → ℤ
-again z = to_z w8 (of_z w8 z)
-
-pub code_below : (z : ℤ) (m : ℕ) → SFits w8 z → Below z true → m ≡ mag (again z) → 255 - m ≡ twos 8 z
-unfolding twos
-code_below (pos n) m f t e = absurd (not-below n f t)
-code_below (negsuc n) m f t e = omega (arith, e ∙ ap mag (to_z-of_z w8 (negsuc n) f))
-
-pub code_above : (z : ℤ) (m : ℕ) → SFits w8 z → Below z false → m ≡ mag (again z) → m ≡ twos 8 z
-unfolding twos
-code_above (pos n) m f t e = e ∙ ap mag (to_z-of_z w8 (pos n) f)
-code_above (negsuc n) m f t e = absurd (is_below n f t)
-
--- ---- whether a value fits
-
-fits-is : (c : ℕ) (z : ℤ) → ltb (mag z) (2 ^ (c - 1)) ≡ fits c z
+fits-is : (c : ℕ) (z : ℤ) → fits_half (2 ^ (c - 1)) z ≡ fits c z
 unfolding fits
 fits-is c (pos n) = refl
 fits-is c (negsuc n) = refl
 
-pub fits_by : (c : ℕ) (z : ℤ) (m : ℕ) → SFits w8 z → c ≤ 8 → m ≡ mag (again z) → ltb m (1 * 2 ^ (c - 1) % 4294967296) ≡ fits c z
-fits_by c z m f h e =
-    rw (e, to_z-of_z w8 z f, power_one (c - 1) (omega arith)) (fits-is c z)
+lt_is : (x y : ℤ) → is_lt (int_cmp x y) ≡ lt_z x y
+lt_is x y = go (lt_z x y) (lt_z y x)
+  where
+    go : (a b : Bool) → is_lt (cond a Less (cond b Greater Equal)) ≡ a
+    go true b = refl
+    go false true = refl
+    go false false = refl
 
--- ---- whether all do, from i on
+le_is : (n h : ℕ) → is_le (int_cmp (negsuc h) (negsuc n)) ≡ ltb n (suc h)
+le_is n h =
+    ⊎_elim
+    (λ (l : suc h ≤ n). rw (le-ltb n (suc h) l, le-ltb n h (omega arith), lt-ltb h n (omega arith)))
+    (λ (l : n < suc h). rw (lt-ltb n (suc h) l, le-ltb h n (omega arith)) (go (ltb n h)))
+    (le_or_lt (suc h) n)
+  where
+    go : (a : Bool) → is_le (cond a Less Equal) ≡ true
+    go true = refl
+    go false = refl
 
-all_at : (c : ℕ) (zs : List ℤ) (i : ℕ) → i < length zs → all_fit c (drop i zs) ≡ fits c (get_or zs i (pos 0)) && all_fit c (drop (i + 1) zs)
+within : (h : ℕ) (z : ℤ) → is_le (int_cmp (negsuc h) z) && is_lt (int_cmp z (pos (suc h))) ≡ fits_half (suc h) z
+within h (pos n) = lt_is (pos n) (pos (suc h))
+within h (negsuc n) = rw (le_is n h) (go (ltb n (suc h)))
+  where
+    go : (a : Bool) → a && true ≡ a
+    go true = refl
+    go false = refl
+
+-- as the code finds it, where a value is read from its bits
+pub fits_by : (c : ℕ) (z : ℤ) → 1 ≤ c → c ≤ 8 → SFits w8 z → {r : Bool} {x : ℤ} → x ≡ to_z w8 (of_z w8 z)
+    → r ≡ is_le (int_cmp (to_z w16 (of_z w16 (pos 0 -ℤ to_z w16 (1 * 2 ^ (c - 1) % 65536)))) (to_z w16 (of_z w16 x))) && is_lt (int_cmp (to_z w16 (of_z w16 x)) (to_z w16 (1 * 2 ^ (c - 1) % 65536)))
+    → r ≡ fits c z
+fits_by c z some few f {r} {x} ex er =
+    let m : 2 ^ (c - 1) ≤ 128 = pow_mono {j = 7} (omega arith) in
+    let i : x ≡ z = ex ∙ to_z-of_z w8 z f in
+    let g : SFits w16 z = record { sfits = omega (arith, f.sfits) } in
+    er ∙ rw (i, to_z-of_z w16 z g, one_shl (c - 1) 16 (omega arith)) (go (2 ^ (c - 1)) refl (pow_pos (c - 1)) m)
+  where
+    go : (H : ℕ) → 2 ^ (c - 1) ≡ H → 1 ≤ H → H ≤ 128
+        → is_le (int_cmp (to_z w16 (of_z w16 (pos 0 -ℤ to_z w16 H))) z) && is_lt (int_cmp z (to_z w16 H)) ≡ fits c z
+    go zero e p l = absurd (omega arith)
+    go (suc h) e p l =
+        let minus : pos 0 -ℤ pos (suc h) ≡ negsuc h = omega (arith, ints) in
+        let b : SFits w16 (negsuc h) = record { sfits = omega arith } in
+        rw (to_z_pos w16 (suc h) (omega arith), minus, to_z-of_z w16 (negsuc h) b) (within h z ∙ ap (λ (H : ℕ). fits_half H z) (sym e) ∙ fits-is c z)
+
+-- ---- whether all do
+
+pub all_fit-is : (c : ℕ) (zs : List ℤ) → list_all (fits c) zs ≡ all_fit c zs
 unfolding all_fit
-all_at c zs i h = let a : i + 1 ≡ suc i = omega arith in rw (a, drop-cons zs i (pos 0) h)
-
-module _ (c : ℕ) (zs : List ℤ) (i : ℕ) (h : i < length zs) (f : SFits w8 (get_or zs i (pos 0))) (r : Bool) (is : r ≡ fits c (again (get_or zs i (pos 0)))) where
-  test_is : (b : Bool) → r ≡ b → fits c (get_or zs i (pos 0)) ≡ b
-  test_is b e = ap (fits c) (sym (to_z-of_z w8 (get_or zs i (pos 0)) f)) ∙ sym is ∙ e
-
-  pub all_stops : r ≡ false → false ≡ all_fit c (drop i zs)
-  all_stops e = sym (all_at c zs i h ∙ rw (test_is false e))
-
-  pub all_passes : r ≡ true → all_fit c (drop (i + 1) zs) ≡ all_fit c (drop i zs)
-  all_passes e = sym (all_at c zs i h ∙ rw (test_is true e))
-
-pub all_done : (c : ℕ) (zs : List ℤ) (i : ℕ) → length zs ≤ i → true ≡ all_fit c (drop i zs)
-unfolding all_fit
-all_done c zs i h = rw (drop_of_length-le zs h, all_fit)
+all_fit-is c [] = refl
+all_fit-is c (z ∷ zs) = ap (λ (b : Bool). fits c z && b) (all_fit-is c zs)

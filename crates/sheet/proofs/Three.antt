@@ -2,17 +2,16 @@
 use mathlib.Core.Path.{◌≡◌, sym, ap, ap₂, ◌∙◌}
 use mathlib.Core.Bool.{Bool}
 use mathlib.Core.List.{List, [], ◌∷◌, ◌++◌, append_assoc}
-use Prim.Native.Nat.{ℕ, ◌+◌, ◌-◌, ◌*◌, ◌/◌, ◌%◌, ◌^◌, ◌≤◌, ◌<◌}
-use native.Mathlib.Nat.{div-add-mod', mod-lt, lt_of_lt_of_le}
+use Prim.Native.Nat.{ℕ, zero, suc, min, ◌+◌, ◌-◌, ◌*◌, ◌/◌, ◌%◌, ◌^◌, ◌≤◌, ◌<◌}
+use native.Mathlib.Nat.{div-add-mod', mod-one}
 use native.Mathlib.Omega.{arith}
 use lib.ListN.{length, take, drop, get_or, length-append, length-drop}
 use lib.Seq.{drop-drop, get_or-drop}
-use lib.Pow.{pow_pos, pow_mono}
 use Rattle.rules.specs.Bits.{bits, number, unpacked, Bytes}
 use Rattle.rules.specs.Sheet.{field_at}
 use Rattle.laws.proofs.Bits.{length-bits, number_append, number-bits_lt}
-use Rattle.laws.proofs.Fields.{number-part, drop-unpacked, part_in}
-use Rattle.sheet.proofs.Shifts.{power_one}
+use Rattle.laws.proofs.Fields.{number-part, drop-unpacked, part_in, field_end, field-none}
+use Rattle.std.proofs.lemmas.Nat.{one_shl}
 
 -- three bytes as one number of 24 bits, and as bits
 abbrev pub whole : ℕ → ℕ → ℕ → ℕ
@@ -89,9 +88,15 @@ field_in_three ys at w small some few h =
     ∙ in_front f w (omega arith) zs (λ j. rw (get_or-drop i ys j 0) (small (i + j))) some l
     ∙ rw (get_or-drop i ys 0 0, get_or-drop i ys 1 0, get_or-drop i ys 2 0, z)
 
--- what the code computes it by
-pub cut_small : (x w : ℕ) → w ≤ 16 → x % (1 * 2 ^ w % 4294967296) < 2 ^ 16
-cut_small x w h = rw (power_one w h) (lt_of_lt_of_le (mod-lt x (pow_pos w)) (pow_mono {j = 16} h))
-
-pub cut_is : (x y k w : ℕ) → w ≤ 16 → x ≡ y → x / 2 ^ k % (1 * 2 ^ w % 4294967296) ≡ y / 2 ^ k % 2 ^ w
-cut_is x y k w h e = rw (e, power_one w h)
+-- what the code computes it by: a field ends where the sheet does, and one of no bits is 0
+pub field_there : (ys : List ℕ) (at bits : ℕ) → Bytes ys → {w x : ℕ} → w ≡ min (min bits 16) (length ys * 8 - at)
+    → x ≡ whole (get_or ys (at / 8) 0) (get_or ys (at / 8 + 1) 0) (get_or ys (at / 8 + 2) 0)
+    → x / 2 ^ (24 - at % 8 - w) % (1 * 2 ^ w % 4294967296) ≡ field_at ys at (min bits 16)
+field_there ys at bits small {w} {x} there three =
+    let few : w ≤ 16 = omega arith in
+    let end : field_at ys at w ≡ field_at ys at (min bits 16) = ap (field_at ys at) there ∙ field_end ys at (min bits 16) in
+    rw (one_shl w 32 (omega arith), ← end) (go w few (omega arith))
+  where
+    go : (w : ℕ) → w ≤ 16 → (1 ≤ w → at + w ≤ length ys * 8) → x / 2 ^ (24 - at % 8 - w) % 2 ^ w ≡ field_at ys at w
+    go zero few h = mod-one (x / 2 ^ (24 - at % 8 - 0)) ∙ sym (field-none ys at)
+    go (suc w) few h = rw three (sym (field_in_three ys at (suc w) small (omega arith) few (h (omega arith))))

@@ -10,7 +10,7 @@ use lib.IntN.{ℤ, pos}
 use borrow.Author.Tests.{lt-leb, eq-eqb}
 use Rattle.rules.specs.Bits.{Bytes}
 use Rattle.rules.specs.Sheet.{Contents, sheet, points, coords, width, ask_count, vectors_of, ask_numbers, ask_query, contents_of}
-use Rattle.rules.specs.Outcome.{gives, outcome, over}
+use Rattle.rules.specs.Outcome.{Outcome, gives, outcome, over}
 use Rattle.rules.specs.Refusals.{sheet_refusal, vectors_refusal, one_ask_refusal}
 use Rattle.rules.specs.Entries.{Header, header_answer, vectors_after, numbers_of, ask_answer, query_after, write_refused, write_answer, output_after}
 use Rattle.laws.proofs.Refusals.{else_none, outcome-gives, outcome-none, outcome_value, after_new}
@@ -20,7 +20,6 @@ use Rattle.laws.proofs.ReadBack.{read_back, sheet_read}
 use Rattle.laws.proofs.WriteBack.{write_back, read_writable, write_again}
 use Rattle.laws.proofs.OneAsk.{one_numbers, one_query}
 use Rattle.sheet.specs.AsRead.{AsRead, numbers_at}
-use Rattle.sheet.proofs.Told.{same_value}
 
 -- ---- what the readers give of any sheet that is not refused
 
@@ -93,6 +92,9 @@ module _ {A : Type 0} (m : ℕ) where
       next i l =
           let s : suc i * m ≡ m + i * m = omega arith in
           rw (drop-drop (i * m) m xs, drop-drop (i * m) m zs, ← s) (h (suc i) (omega arith))
+
+same_value : {A : Type 0} (a b : A) → ◌≡◌ {A = Outcome A} (gives a) (gives b) → a ≡ b
+same_value a b e = cc
 
 -- four numbers are those of their record
 four_same : (xs zs : List ℕ) → length xs ≡ 4 → length zs ≡ 4 → numbers_of xs ≡ numbers_of zs → xs ≡ zs

@@ -1,28 +1,40 @@
--- What the entries' answers say in document 01's terms: a refusal's number, or the values.
-use Rattle.std.specs.Prelude.{ℕ, List}
-use Rattle.rules.specs.Outcome.{Outcome, refused, gives}
-use Rattle.rules.specs.Sheet.{points, coords, width, ask_count}
-use Rattle.rules.specs.Entries.{Header, Numbers}
-use Rattle.sheet.specs.declared.Written.{Written}
-use Rattle.sheet.specs.declared.Written.TheVariants as written
+-- The code's values and answers in document 01's terms.
+use Rattle.std.specs.Prelude.{ℕ, List, [], ◌∷◌, Result}
+use Rattle.rules.specs.Outcome.{Outcome}
+use Rattle.rules.specs.Sheet.{contents, points, coords, width, ask_count}
+use Rattle.rules.specs.Sheet as rules
+use Rattle.rules.specs.Entries.{Header}
+use Rattle.rules.specs.Entries as entries
+use Rattle.space.specs.declared.refusal.Refusal.{Refusal}
+use Rattle.space.specs.Told.{told}
 use Rattle.sheet.specs.declared.Head.{Head}
-use Rattle.sheet.specs.declared.Headed.{Headed}
-use Rattle.sheet.specs.declared.Headed.TheVariants as headed
-use Rattle.sheet.specs.declared.Asked.{Asked}
-use Rattle.sheet.specs.declared.Asked.TheVariants as asked
+use Rattle.sheet.specs.declared.Contents.{Contents}
+use Rattle.sheet.specs.declared.Numbers.{Numbers}
 
 -- the header of a sheet, as the code hands it on
 abbrev pub head_of : List ℕ → Head
 head_of ys = record { n = points ys; d = coords ys; c = width ys; asks = ask_count ys }
 
-abbrev pub write_told : Written → Outcome ℕ
-write_told (written.Refused r) = refused r
-write_told (written.Length l) = gives l
+-- the contents that the writer is given
+abbrev pub held : Contents → rules.Contents
+held k = contents k.head.n k.head.d k.head.c k.head.asks k.vectors.now k.numbers.now k.queries.now
 
-abbrev pub head_told : Headed → Outcome Header
-head_told (headed.Refused r) = refused r
-head_told (headed.Holds h) = gives (record { n = h.n; d = h.d; c = h.c; asks = h.asks })
+-- an ask's numbers as the writer is given them
+abbrev pub row_of : Numbers → List ℕ
+row_of a = a.start ∷ a.width ∷ a.k ∷ a.threshold ∷ []
 
-abbrev pub ask_told : Asked → Outcome Numbers
-ask_told (asked.Refused r) = refused r
-ask_told (asked.Numbers s w k t) = gives (record { start = s; width = w; k = k; threshold = t })
+abbrev pub header_of : Head → Header
+header_of h = record { n = h.n; d = h.d; c = h.c; asks = h.asks }
+
+abbrev pub four_of : Numbers → entries.Numbers
+four_of a = record { start = a.start; width = a.width; k = a.k; threshold = a.threshold }
+
+-- what the writer, the header's reader and an ask's reader answer
+abbrev pub write_told : Result ℕ Refusal → Outcome ℕ
+write_told = told (λ l. l)
+
+abbrev pub head_told : Result Head Refusal → Outcome Header
+head_told = told header_of
+
+abbrev pub ask_told : Result Numbers Refusal → Outcome entries.Numbers
+ask_told = told four_of

@@ -1,5 +1,6 @@
 -- What the contracts of `sheet` cite besides the definitions of `rules`.
 pub mod Answers
 pub mod Put
+pub mod Pen
 pub mod AsRead
 pub mod Past

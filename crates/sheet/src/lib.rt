@@ -8,17 +8,18 @@ mod read;
 mod refuse;
 mod values;
 
-ghost use Rattle.std.specs.Prelude.{◌≡◌, length};
-ghost use Rattle.rules.specs.Sheet.{contents};
+ghost use Rattle.std.specs.Prelude.{◌≡◌, ◌+◌, ◌^◌, ◌≤◌, ◌<◌, length, drop};
+ghost use Rattle.rules.specs.Bits.{unpacked};
+ghost use Rattle.rules.specs.Sheet.{bit_count, numbers_in};
 ghost use Rattle.rules.specs.Refusals.{vectors_refusal};
 ghost use Rattle.rules.specs.Entries.{write_answer, output_after, header_answer, vectors_after, ask_answer, query_after};
-ghost use Rattle.sheet.specs.Answers.{write_told, head_told, ask_told};
+ghost use Rattle.space.specs.Told.{number_in};
+ghost use Rattle.sheet.specs.Answers.{held, row_of, write_told, head_told, ask_told};
 
-#[derive(Clone, Copy)]
-pub enum Written {
-    Refused(u8),
-    Length(usize),
-}
+use crate::place::{Place, open, past};
+use crate::read::check;
+use crate::values::Width;
+use space::Refusal;
 
 // What a sheet's header holds: n points of d coordinates, the coordinate width c and the ask count.
 #[derive(Clone, Copy)]
@@ -29,87 +30,118 @@ pub struct Head {
     pub asks: usize,
 }
 
+// What a sheet is written of: the points' coordinates, each in c bits, and for each ask four numbers (start, width, k, threshold) and
+// a query.
 #[derive(Clone, Copy)]
-pub enum Headed {
-    Refused(u8),
-    Holds(Head),
+pub struct Contents<'a> {
+    pub head: Head,
+    pub vectors: &'a [i8],
+    pub numbers: &'a [u16],
+    pub queries: &'a [i8],
 }
 
 // One ask's four numbers.
 #[derive(Clone, Copy)]
-pub enum Asked {
-    Refused(u8),
-    Numbers {
-        start: u16,
-        width: u16,
-        k: u16,
-        threshold: u16,
-    },
+pub struct Numbers {
+    pub start: u16,
+    pub width: u16,
+    pub k: u16,
+    pub threshold: u16,
 }
 
-// Writes a sheet of n points of d coordinates, each coordinate in c bits, and of asks: four numbers (start, width, k, threshold) and a
-// query for each. Answers the sheet's length, and leaves the bytes past it as they were.
-pub fn write(
-    n: usize,
-    d: usize,
-    c: usize,
-    asks: usize,
-    vectors: &[i8],
-    numbers: &[u16],
-    queries: &[i8],
-    output: &mut [u8],
-) -> Written
-    ensures { (write_told result ≡ write_answer (contents n d c asks vectors.now numbers.now queries.now) output.old)
-        × (output.new ≡ output_after (contents n d c asks vectors.now numbers.now queries.now) output.old) }
-{
-    let refusal = refuse::writer_refusal(n, d, c, asks, vectors, numbers, queries, output.len());
-    if refusal != 0 {
-        return Written::Refused(refusal);
+impl Head {
+    // The bit where an ask starts. Where there are as many asks, these are all the bits before the filling.
+    #[tactic(auto, unfolding(rules::specs::Sheet::bit_count))]
+    fn place(self, ask: usize) -> usize
+        requires points { self.n ≤ 128 }
+        requires coordinates { self.d ≤ 64 }
+        requires width { self.c ≤ 8 }
+        requires few { ask ≤ 127 }
+        ensures value { result ≡ bit_count self.n self.d self.c ask }
+        ensures small { result ≤ 135156 }
+    {
+        24 + (self.n * self.d * self.c + ask * (36 + self.d * self.c))
     }
-    Written::Length(put::put_sheet(n, d, c, asks, vectors, numbers, queries, output))
+}
+
+impl Numbers {
+    // The numbers of an ask, as the writer is given them.
+    fn of(row: &[u16]) -> Numbers
+        requires { length row.now ≡ 4 }
+        ensures { row_of result ≡ row.now }
+    {
+        Numbers {
+            start: row[0],
+            width: row[1],
+            k: row[2],
+            threshold: row[3],
+        }
+    }
+
+    // An ask's numbers at a place, which moves past them.
+    fn read(place: &mut Place<'_>) -> Numbers
+        requires { place.old.next < 2 ^ 20 }
+        ensures value { row_of result ≡ numbers_in (drop place.old.next (unpacked place.old.sheet.now)) }
+        ensures same { place.new.sheet ≡ place.old.sheet }
+        ensures moved { place.new.next ≡ place.old.next + 36 }
+    {
+        Numbers {
+            start: place.take(7),
+            width: place.take(7) + 1,
+            k: place.take(7) + 1,
+            threshold: place.take(15),
+        }
+    }
+}
+
+// Writes a sheet. Answers its length, and leaves the bytes past it as they were.
+#[tactic(auto, unfolding(rules::specs::Entries::write_answer, rules::specs::Entries::output_after, rules::specs::Entries::write_refused, rules::specs::Outcome::outcome, rules::specs::Outcome::after))]
+pub fn write(contents: &Contents<'_>, output: &mut [u8]) -> Result<usize, Refusal>
+    ensures value { write_told result ≡ write_answer (held contents.now) output.old }
+    ensures output { output.new ≡ output_after (held contents.now) output.old }
+{
+    let sheet = contents.check(output.len())?;
+    Ok(sheet.put(output))
 }
 
 // Reads n, d, c and the ask count.
-pub fn header(sheet: &[u8]) -> Headed
+#[tactic(auto, using(crate::proofs::Entered::told_is), unfolding(rules::specs::Entries::header_answer))]
+pub fn header(sheet: &[u8]) -> Result<Head, Refusal>
     ensures { head_told result ≡ header_answer sheet.now }
 {
-    let refusal = read::sheet_refusal(sheet);
-    if refusal != 0 {
-        return Headed::Refused(refusal);
-    }
-    Headed::Holds(read::head(sheet))
+    check(sheet)
 }
 
-// Reads the vectors into a buffer of n × d cells. Answers the refusal, 0 for none.
-pub fn vectors(sheet: &[u8], buffer: &mut [i8]) -> u8
-    ensures { (result ≡ vectors_refusal sheet.now (length buffer.old))
-        × (buffer.new ≡ vectors_after sheet.now buffer.old) }
+// Reads the vectors into a buffer of n × d cells.
+#[tactic(auto, using(crate::proofs::Reading::head_small, crate::proofs::Reading::products_small, crate::proofs::Reading::vectors_small), unfolding(rules::specs::Entries::vectors_after, rules::specs::Sheet::vectors_of, rules::specs::Refusals::vectors_refusal, rules::specs::Outcome::or_else, rules::specs::Outcome::after))]
+pub fn vectors(sheet: &[u8], buffer: &mut [i8]) -> Result<(), Refusal>
+    ensures value { number_in result ≡ vectors_refusal sheet.now (length buffer.old) }
+    ensures buffer { buffer.new ≡ vectors_after sheet.now buffer.old }
 {
-    let refusal = read::vectors_refusal(sheet, buffer.len());
-    if refusal != 0 {
-        return refusal;
+    let head = check(sheet)?;
+    if buffer.len() != head.n * head.d {
+        return Err(Refusal::Vectors);
     }
-    let head = read::head(sheet);
-    read::read_values(sheet, 24, head.c, buffer);
-    0
+    past(open(sheet), 24).fill(Width { c: head.c }, buffer);
+    Ok(())
 }
 
 // Reads the four numbers of one ask, and its query into a buffer of d cells.
-pub fn ask(sheet: &[u8], number: u16, query: &mut [i8]) -> Asked
-    ensures { (ask_told result ≡ ask_answer sheet.now number query.old)
-        × (query.new ≡ query_after sheet.now number query.old) }
+#[tactic(auto, using(crate::proofs::Reading::head_small, crate::proofs::Reading::query_small), unfolding(rules::specs::Entries::ask_answer, rules::specs::Entries::query_after, rules::specs::Refusals::one_ask_refusal, rules::specs::Outcome::or_else, rules::specs::Outcome::after, rules::specs::Outcome::outcome))]
+pub fn ask(sheet: &[u8], number: u16, query: &mut [i8]) -> Result<Numbers, Refusal>
+    ensures value { ask_told result ≡ ask_answer sheet.now number query.old }
+    ensures query { query.new ≡ query_after sheet.now number query.old }
 {
-    let refusal = read::one_ask_refusal(sheet, number, query.len());
-    if refusal != 0 {
-        return Asked::Refused(refusal);
+    let head = check(sheet)?;
+    let number = usize::from(number);
+    if head.asks <= number {
+        return Err(Refusal::AskNumber);
     }
-    let head = read::head(sheet);
-    let at = read::bit_count(head.n, head.d, head.c, read::wide(number));
-    read::read_values(sheet, at + 36, head.c, query);
-    Asked::Numbers {
-        start: place::field_from(sheet, at, 7),
-        width: place::field_from(sheet, at + 7, 7) + 1,
-        k: place::field_from(sheet, at + 14, 7) + 1,
-        threshold: place::field_from(sheet, at + 21, 15),
+    if query.len() != head.d {
+        return Err(Refusal::Query);
     }
+    let mut place = past(open(sheet), head.place(number));
+    let numbers = Numbers::read(&mut place);
+    place.fill(Width { c: head.c }, query);
+    Ok(numbers)
 }

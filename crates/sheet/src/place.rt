@@ -1,15 +1,40 @@
-// The reading place: it keeps the sheet and the next bit. Its functions are few and thin over `field_at` and `past_at`, which take the slice
-// and the number. `field_from` takes plain parameters, and everyone else reads by it.
-ghost use Rattle.std.specs.Prelude.{◌≡◌, min};
+// The reading place: it keeps the sheet and the next bit. All reading goes by it, and `field_from` reads by it for those who know a bit's number.
+// (a) `open`, `past`, `field` and `field_from` stay functions: they are public, and docs name each with its promise.
+ghost use Rattle.std.specs.Prelude.{◌≡◌, ◌+◌, ◌*◌, ◌^◌, ◌≤◌, ◌<◌, min, length, drop};
+ghost use Rattle.rules.specs.Bits.{values, unpacked};
 ghost use Rattle.rules.specs.Sheet.{field_at};
 ghost use Rattle.sheet.specs.Past.{past_at};
 
-use crate::fields::{field_at, past_at};
+use crate::fields::field_at;
+use crate::values::Width;
 
 #[derive(Clone, Copy)]
 pub struct Place<'a> {
     pub sheet: &'a [u8],
     pub next: usize,
+}
+
+impl Place<'_> {
+    // The number in the next bits, of which at most 16 are read; the place moves past them.
+    pub(crate) fn take(&mut self, bits: usize) -> u16
+        ensures value { result ≡ field_at self.old.sheet.now self.old.next (min bits 16) }
+        ensures same { self.new.sheet ≡ self.old.sheet }
+        ensures moved { self.new.next ≡ past_at self.old.next bits }
+    {
+        let number = field(*self, bits);
+        *self = past(*self, bits);
+        number
+    }
+
+    // Fills a buffer with values of that width.
+    pub(crate) fn fill(mut self, width: Width, buffer: &mut [i8])
+        requires { self.next + length buffer.old * width.c < 2 ^ 20 }
+        ensures { buffer.new ≡ values width.c (length buffer.old) (drop self.entry.next (unpacked self.entry.sheet.now)) }
+    {
+        for cell in buffer.iter_mut() {
+            *cell = width.value(self.take(width.c));
+        }
+    }
 }
 
 // The place before the first bit.
@@ -25,7 +50,7 @@ pub fn past<'a>(place: Place<'a>, bits: usize) -> Place<'a>
 {
     Place {
         sheet: place.sheet,
-        next: past_at(place.next, bits),
+        next: place.next.saturating_add(bits),
     }
 }
 

@@ -1,164 +1,126 @@
-// Writing a sheet, field after field. Each function returns the next place.
-ghost use Rattle.std.specs.Prelude.{◌≡◌, true, ◌++◌, ◌+◌, ◌-◌, ◌*◌, ◌/◌, ◌%◌, ◌^◌, ◌≤◌, ◌<◌, length};
+// Writing a sheet, field after field.
+ghost use Rattle.std.specs.Prelude.{◌≡◌, true, ◌++◌, ◌+◌, ◌*◌, ◌/◌, ◌%◌, ◌≤◌, ◌<◌, length};
 ghost use Rattle.rules.specs.Bits.{bits, value_bits, all_fit};
-ghost use Rattle.rules.specs.Sheet.{contents, sheet, number_bits, ask_bits};
+ghost use Rattle.rules.specs.Sheet.{number_bits, sheet_bits, sheet};
 ghost use Rattle.rules.specs.Outcome.{over};
-ghost use Rattle.rules.specs.Refusals.{ask_refusal, asks_refusal, writer_refusal};
-ghost use Rattle.sheet.specs.Put.{put_bits};
+ghost use Rattle.rules.specs.Refusals.{ask_refusal};
+ghost use Rattle.sheet.specs.Answers.{held};
+ghost use Rattle.sheet.specs.Pen.{Puts, Room, asks_in};
 
-use crate::values::code;
+use crate::Numbers;
+use crate::refuse::Accepted;
+use crate::values::Width;
 
-// How many of k bits go into the byte that bit `at` lies in.
-fn part(at: usize, k: usize) -> usize
-    requires { 1 ≤ k }
-    ensures { (1 ≤ result) × (result ≤ k) × (at % 8 + result ≤ 8) }
-{
-    let left = 8 - at % 8;
-    if k < left { k } else { left }
+// It keeps the output and the next bit. The bits after that one, to the byte's end, are 0.
+#[derive(Drop)]
+pub(crate) struct Pen<'a> {
+    pub(crate) out: &'a mut [u8],
+    pub(crate) next: usize,
 }
 
-// The last k bits of v into one byte; the bits after them, to the byte's end, become 0.
-fn put_part(out: &mut [u8], at: usize, k: usize, v: u32)
-    requires { (1 ≤ k) × (at % 8 + k ≤ 8) × (at / 8 < length out.old) }
-    ensures { out.new ≡ put_bits out.old at (bits k v) }
-{
-    let j = at / 8;
-    let m = at % 8;
-    let x = out[j] as u32;
-    let kept = (x >> (8 - m)) << k;
-    out[j] = ((kept + v % (1 << k)) << (8 - m - k)) as u8;
-}
-
-// A field: the last w bits of v, the most significant first.
-fn put_field(out: &mut [u8], at: usize, w: usize, v: u32) -> usize
-    requires { (w < 32) × (at + w ≤ length out.old * 8) × (at + w < 2 ^ 20) }
-    ensures { (result ≡ at + w) × (out.new ≡ put_bits out.old at (bits w v)) }
-{
-    let mut k = w;
-    let mut p = at;
-    while k > 0 {
-        let t = part(p, k);
-        k -= t;
-        put_part(out, p, t, v >> k);
-        p += t;
+impl Pen<'_> {
+    // The last k bits of v into the byte that the next bit lies in; the bits after them, to the byte's end, become 0.
+    fn part(&mut self, k: usize, v: usize)
+        requires some { 1 ≤ k }
+        requires inside { self.old.next % 8 + k ≤ 8 }
+        requires room { Room self.old k }
+        ensures { Puts self.old self.new (bits k v) }
+    {
+        let place = self.next / 8;
+        let before = self.next % 8;
+        let kept = usize::from(self.out[place]) >> (8 - before);
+        self.out[place] = (((kept << k) + v % (1 << k)) << (8 - before - k)) as u8;
+        self.next += k;
     }
-    p
-}
 
-// Values of c bits each, one after the other.
-fn put_values(out: &mut [u8], at: usize, c: usize, zs: &[i8]) -> usize
-    requires { (c ≤ 8) × (all_fit c zs.now ≡ true) × (at + length zs.now * c ≤ length out.old * 8) × (at + length zs.now * c < 2 ^ 20) }
-    ensures { (result ≡ at + length zs.now * c) × (out.new ≡ put_bits out.old at (value_bits c zs.now)) }
-{
-    let mut i = 0;
-    let mut p = at;
-    while i < zs.len() {
-        p = put_field(out, p, c, code(zs[i]));
-        i += 1;
+    // A field: the last w bits of v, the most significant first.
+    fn field(&mut self, w: usize, v: usize)
+        requires few { w < 32 }
+        requires room { Room self.old w }
+        ensures put { Puts self.old self.new (bits w v) }
+        ensures moved { self.new.next ≡ self.old.next + w }
+    {
+        let mut k = w;
+        // (d) The parts of a field differ in length, so what is left is counted, and no iterator has them.
+        while k > 0 {
+            let t = k.min(8 - self.next % 8);
+            k -= t;
+            self.part(t, v >> k);
+        }
     }
-    p
-}
 
-fn wide(x: u16) -> u32
-    ensures { result ≡ x }
-{
-    x as u32
-}
-
-// Four fields in a row: the header's, or an ask's numbers.
-fn put_row(
-    out: &mut [u8],
-    at: usize,
-    wa: usize,
-    wb: usize,
-    wc: usize,
-    wd: usize,
-    a: u32,
-    b: u32,
-    c: u32,
-    d: u32,
-) -> usize
-    requires { (wa < 32) × (wb < 32) × (wc < 32) × (wd < 32) × (at + (wa + wb + wc + wd) ≤ length out.old * 8) × (at + (wa + wb + wc + wd) < 2 ^ 20) }
-    ensures { (result ≡ at + (wa + wb + wc + wd)) × (out.new ≡ put_bits out.old at (bits wa a ++ (bits wb b ++ (bits wc c ++ bits wd d)))) }
-{
-    let p = put_field(out, at, wa, a);
-    let q = put_field(out, p, wb, b);
-    let r = put_field(out, q, wc, c);
-    put_field(out, r, wd, d)
-}
-
-// One ask: its four numbers, then its query.
-fn put_ask(out: &mut [u8], at: usize, c: usize, ns: &[u16], qs: &[i8]) -> usize
-    requires { (c ≤ 8) × (length ns.now ≡ 4) × (ask_refusal ns.now ≡ 0) × (all_fit c qs.now ≡ true)
-        × (at + 36 + length qs.now * c ≤ length out.old * 8) × (at + 36 + length qs.now * c < 2 ^ 20) }
-    ensures { (result ≡ at + 36 + length qs.now * c)
-        × (out.new ≡ put_bits out.old at (number_bits ns.now ++ value_bits c qs.now)) }
-{
-    let start = wide(ns[0]);
-    let width = wide(ns[1]) - 1;
-    let k = wide(ns[2]) - 1;
-    let threshold = wide(ns[3]);
-    let p = put_row(out, at, 7, 7, 7, 15, start, width, k, threshold);
-    put_values(out, p, c, qs)
-}
-
-// The asks.
-fn put_asks(
-    out: &mut [u8],
-    at: usize,
-    d: usize,
-    c: usize,
-    asks: usize,
-    ns: &[u16],
-    qs: &[i8],
-) -> usize
-    requires { (c ≤ 8) × (asks_refusal asks ns.now ≡ 0) × (all_fit c qs.now ≡ true) × (length ns.now ≡ 4 * asks) × (length qs.now ≡ asks * d)
-        × (at + asks * (36 + d * c) ≤ length out.old * 8) × (at + asks * (36 + d * c) < 2 ^ 20) }
-    ensures { (result ≡ at + asks * (36 + d * c)) × (out.new ≡ put_bits out.old at (ask_bits d c asks ns.now qs.now)) }
-{
-    let mut i = 0;
-    let mut j = 0;
-    let mut q = 0;
-    let mut p = at;
-    while i < asks {
-        let f = j + 4;
-        let e = q + d;
-        p = put_ask(out, p, c, &ns[j..f], &qs[q..e]);
-        i += 1;
-        j = f;
-        q = e;
+    // Values of a width, one after the other.
+    fn values(&mut self, width: Width, zs: &[i8])
+        requires fit { all_fit width.c zs.now ≡ true }
+        requires room { Room self.old (length zs.now * width.c) }
+        ensures put { Puts self.old self.new (value_bits width.c zs.now) }
+        ensures moved { self.new.next ≡ self.old.next + length zs.now * width.c }
+    {
+        for z in zs {
+            self.field(width.c, usize::from(z.cast_unsigned()));
+        }
     }
-    p
+
+    // One ask: its four numbers, then its query.
+    #[tactic(auto, unfolding(rules::specs::Refusals::ask_refusal))]
+    fn ask(&mut self, width: Width, row: &[u16], query: &[i8])
+        requires four { length row.now ≡ 4 }
+        requires given { ask_refusal row.now ≡ 0 }
+        requires fit { all_fit width.c query.now ≡ true }
+        requires room { Room self.old (36 + length query.now * width.c) }
+        ensures { Puts self.old self.new (number_bits row.now ++ value_bits width.c query.now) }
+    {
+        let numbers = Numbers::of(row);
+        self.field(7, usize::from(numbers.start));
+        self.field(7, usize::from(numbers.width - 1));
+        self.field(7, usize::from(numbers.k - 1));
+        self.field(15, usize::from(numbers.threshold));
+        self.values(width, query);
+    }
+
+    // The asks.
+    fn asks(&mut self, sheet: &Accepted<'_>)
+        requires { Room self.old (length (asks_in (held sheet.now.contents))) }
+        ensures { Puts self.old self.new (asks_in (held sheet.now.contents)) }
+    {
+        let contents = sheet.contents;
+        let head = contents.head;
+        let width = Width { c: head.c };
+        let queries = contents.queries.chunks_exact(head.d);
+        for (row, query) in contents.numbers.chunks_exact(4).zip(queries) {
+            self.ask(width, row, query);
+        }
+    }
+
+    // The whole sheet but the filling, which is 0 as a pen leaves it.
+    #[tactic(auto, using(crate::proofs::Whole::sheet_long))]
+    fn sheet(&mut self, sheet: &Accepted<'_>)
+        requires { Room self.old (length (sheet_bits (held sheet.now.contents))) }
+        ensures { Puts self.old self.new (sheet_bits (held sheet.now.contents)) }
+    {
+        let contents = sheet.contents;
+        let head = contents.head;
+        self.field(7, head.n - 1);
+        self.field(6, head.d - 1);
+        self.field(3, head.c - 1);
+        self.field(8, head.asks);
+        self.values(Width { c: head.c }, contents.vectors);
+        self.asks(sheet);
+    }
 }
 
-// The whole sheet, of contents that are not refused. Returns its length; the bytes past it stay as they were.
-pub(crate) fn put_sheet(
-    n: usize,
-    d: usize,
-    c: usize,
-    asks: usize,
-    vectors: &[i8],
-    numbers: &[u16],
-    queries: &[i8],
-    out: &mut [u8],
-) -> usize
-    requires { writer_refusal n d c asks vectors.now numbers.now queries.now (length out.old) ≡ 0 }
-    ensures { (result ≡ length (sheet (contents n d c asks vectors.now numbers.now queries.now)))
-        × (out.new ≡ over (sheet (contents n d c asks vectors.now numbers.now queries.now)) out.old) }
-{
-    let p = put_row(
-        out,
-        0,
-        7,
-        6,
-        3,
-        8,
-        (n - 1) as u32,
-        (d - 1) as u32,
-        (c - 1) as u32,
-        asks as u32,
-    );
-    let q = put_values(out, p, c, vectors);
-    let r = put_asks(out, q, d, c, asks, numbers, queries);
-    (r + 7) / 8
+impl Accepted<'_> {
+    // Puts the sheet into the output, and answers its length; the bytes past it stay as they were.
+    pub(crate) fn put(&self, output: &mut [u8]) -> usize
+        requires { self.now.length ≤ length output.old }
+        ensures long { result ≡ length (sheet (held self.now.contents)) }
+        ensures written { output.new ≡ over (sheet (held self.now.contents)) output.old }
+    {
+        let mut pen = Pen {
+            out: output,
+            next: 0,
+        };
+        pen.sheet(self);
+        self.length
+    }
 }

@@ -1,124 +1,110 @@
 // The writer's refusals, in its order: 1, 2, 11, 12, 3, 5; then ask by ask 6, 7, 8, 9; then 13, 14.
-ghost use Rattle.std.specs.Prelude.{◌≡◌, ◌||◌, [], ◌∷◌, ◌+◌, ◌*◌, ◌≤◌, ◌<◌, ltb, length, drop};
+ghost use Rattle.std.specs.Prelude.{◌≡◌, [], ◌∷◌, ◌*◌, ◌/◌, ◌≤◌, length, IfOk, OnOk};
+ghost use Rattle.rules.specs.Sheet.{sheet_length};
 ghost use Rattle.rules.specs.Outcome.{first_of};
-ghost use Rattle.rules.specs.Refusals.{differ, refuse1, refuse2, refuse3, refuse5, refuse11, refuse12, ask_refusal, asks_refusal, writer_refusal};
+ghost use Rattle.rules.specs.Refusals.{refuse1, refuse2, refuse3, refuse5, refuse11, refuse12, ask_refusal, asks_refusal, writer_refusal};
+ghost use Rattle.space.specs.Told.{number_in};
+ghost use Rattle.laws.proofs.Writable.{Writable};
+ghost use Rattle.sheet.specs.Answers.{held, row_of};
 
-use crate::read::{bit_count, wide};
-use crate::values::all_fit;
+use crate::values::Width;
+use crate::{Contents, Numbers};
+use space::{Refusal, is_outside};
 
-fn are_wrong(asks: usize, numbers: usize) -> bool
-    ensures { result ≡ (ltb 127 asks || differ numbers (4 * asks)) }
-{
-    if 127 < asks {
-        return true;
-    }
-    numbers != 4 * asks
+// Contents that are not refused, and the length of their sheet.
+#[derive(Clone, Copy)]
+pub(crate) struct Accepted<'a> {
+    pub(crate) contents: Contents<'a>,
+    pub(crate) length: usize,
+    ghost can: { Writable (held contents) },
+    ghost exact: { length ≡ sheet_length contents.head.n contents.head.d contents.head.c contents.head.asks },
 }
 
-// The limits and the lengths: 1, 2, 11, 12, 3, 5.
-fn shape_refusal(
-    n: usize,
-    d: usize,
-    c: usize,
-    asks: usize,
-    vectors: usize,
-    numbers: usize,
-    queries: usize,
-) -> u8
-    ensures { result ≡ first_of (refuse1 n ∷ refuse2 d ∷ refuse11 c ∷ refuse12 asks numbers ∷ refuse3 n d vectors ∷ refuse5 (asks * d) queries ∷ []) }
-{
-    if space::is_outside(1, 128, n) {
-        return 1;
+impl<'a> Contents<'a> {
+    // The limits and the lengths: 1, 2, 11, 12, 3, 5.
+    fn check_shape(&self) -> Result<(), Refusal>
+        ensures refusal { number_in result ≡ first_of (refuse1 self.now.head.n ∷ refuse2 self.now.head.d ∷ refuse11 self.now.head.c
+            ∷ refuse12 self.now.head.asks (length self.now.numbers.now)
+            ∷ refuse3 self.now.head.n self.now.head.d (length self.now.vectors.now)
+            ∷ refuse5 (self.now.head.asks * self.now.head.d) (length self.now.queries.now) ∷ []) }
+        ensures numbers { OnOk result (length self.now.numbers.now ≡ 4 * self.now.head.asks) }
+    {
+        let head = self.head;
+        if is_outside(1, 128, head.n) {
+            return Err(Refusal::Points);
+        }
+        if is_outside(1, 64, head.d) {
+            return Err(Refusal::Coordinates);
+        }
+        if is_outside(1, 8, head.c) {
+            return Err(Refusal::ValueWidth);
+        }
+        if 127 < head.asks || self.numbers.len() != 4 * head.asks {
+            return Err(Refusal::Asks);
+        }
+        if self.vectors.len() != head.n * head.d {
+            return Err(Refusal::Vectors);
+        }
+        if self.queries.len() != head.asks * head.d {
+            return Err(Refusal::Query);
+        }
+        Ok(())
     }
-    if space::is_outside(1, 64, d) {
-        return 2;
-    }
-    if space::is_outside(1, 8, c) {
-        return 11;
-    }
-    if are_wrong(asks, numbers) {
-        return 12;
-    }
-    if vectors != n * d {
-        return 3;
-    }
-    if queries != asks * d {
-        return 5;
-    }
-    0
-}
 
-// One ask: 6, 7, 8, 9.
-fn ask_refusal(start: u16, width: u16, k: u16, threshold: u16) -> u8
-    ensures { result ≡ ask_refusal (start ∷ width ∷ k ∷ threshold ∷ []) }
-{
-    if 128 <= start {
-        return 6;
+    // All refusals of the writer; where there is none, the contents as what is not refused.
+    #[tactic(auto, unfolding(rules::specs::Refusals::writer_refusal, rules::specs::Outcome::or_else, rules::specs::Sheet::sheet_length, rules::specs::Bits::byte_count))]
+    pub(crate) fn check(&self, output: usize) -> Result<Accepted<'a>, Refusal>
+        ensures refusal { number_in result
+            ≡ writer_refusal self.now.head.n self.now.head.d self.now.head.c self.now.head.asks self.now.vectors.now self.now.numbers.now self.now.queries.now output }
+        ensures same { IfOk result (λ sheet. sheet.contents ≡ self.now) }
+        ensures room { IfOk result (λ sheet. sheet.length ≤ output) }
+    {
+        self.check_shape()?;
+        check_asks(self.numbers)?;
+        let head = self.head;
+        let width = Width { c: head.c };
+        if !(width.all_fit(self.vectors) && width.all_fit(self.queries)) {
+            return Err(Refusal::Misfit);
+        }
+        let length = head.place(head.asks).div_ceil(8);
+        if output < length {
+            return Err(Refusal::Output);
+        }
+        Ok(Accepted {
+            contents: *self,
+            length,
+        })
     }
-    if space::is_outside(1, 128, wide(width)) {
-        return 7;
-    }
-    if space::is_outside(1, 128, wide(k)) {
-        return 8;
-    }
-    if 32767 < threshold {
-        return 9;
-    }
-    0
-}
-
-// The ask whose four numbers stand from j on.
-fn refusal_at(numbers: &[u16], j: usize) -> u8
-    requires { (j < 508) × (j + 4 ≤ length numbers.now) }
-    ensures { result ≡ ask_refusal (drop j numbers.now) }
-{
-    ask_refusal(numbers[j], numbers[j + 1], numbers[j + 2], numbers[j + 3])
 }
 
 // Ask by ask.
-fn asks_refusal(asks: usize, numbers: &[u16]) -> u8
-    requires { (asks ≤ 127) × (length numbers.now ≡ 4 * asks) }
-    ensures { result ≡ asks_refusal asks numbers.now }
+fn check_asks(numbers: &[u16]) -> Result<(), Refusal>
+    ensures { number_in result ≡ asks_refusal (length numbers.now / 4) numbers.now }
 {
-    let mut i = 0;
-    while i < asks {
-        let refusal = refusal_at(numbers, i * 4);
-        if refusal != 0 {
-            return refusal;
-        }
-        i += 1;
+    for row in numbers.chunks_exact(4) {
+        Numbers::of(row).check()?;
     }
-    0
+    Ok(())
 }
 
-pub(crate) fn writer_refusal(
-    n: usize,
-    d: usize,
-    c: usize,
-    asks: usize,
-    vectors: &[i8],
-    numbers: &[u16],
-    queries: &[i8],
-    output: usize,
-) -> u8
-    ensures { result ≡ writer_refusal n d c asks vectors.now numbers.now queries.now output }
-{
-    let shape = shape_refusal(n, d, c, asks, vectors.len(), numbers.len(), queries.len());
-    if shape != 0 {
-        return shape;
+impl Numbers {
+    // One ask: 6, 7, 8, 9.
+    #[tactic(auto, unfolding(rules::specs::Refusals::ask_refusal))]
+    fn check(self) -> Result<(), Refusal>
+        ensures { number_in result ≡ ask_refusal (row_of self) }
+    {
+        if 128 <= self.start {
+            return Err(Refusal::Id);
+        }
+        if is_outside(1, 128, usize::from(self.width)) {
+            return Err(Refusal::Width);
+        }
+        if is_outside(1, 128, usize::from(self.k)) {
+            return Err(Refusal::Count);
+        }
+        if 32767 < self.threshold {
+            return Err(Refusal::Threshold);
+        }
+        Ok(())
     }
-    let refusal = asks_refusal(asks, numbers);
-    if refusal != 0 {
-        return refusal;
-    }
-    if !all_fit(c, vectors) {
-        return 13;
-    }
-    if !all_fit(c, queries) {
-        return 13;
-    }
-    if output < (bit_count(n, d, c, asks) + 7) / 8 {
-        return 14;
-    }
-    0
 }

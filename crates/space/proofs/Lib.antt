@@ -1,4 +1,5 @@
--- Laws that the proofs of `space` share, and what `measure` is for a set that is not refused.
+-- Laws that the proofs of `space` share, what its answers say, and what the coordinates of a set that is not refused are.
 pub mod Sums
-pub mod Wide
 pub mod Measured
+pub mod Told
+pub mod Same

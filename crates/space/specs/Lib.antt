@@ -1,2 +1,3 @@
--- What the code of `space` speaks of on its way to D.
+-- What the code of `space` speaks of: an answer in document 01's terms, and the blocks on the way to D.
 pub mod Pairs
+pub mod Told

@@ -1,31 +1,14 @@
 // D in blocks of coordinates. The compiler makes wide code of a block whose terms are written out, and of a difference that is a byte.
-ghost use Rattle.std.specs.Prelude.{◌≡◌, ◌+◌, ◌<◌, ◌≤◌, T, ◌-ℤ◌, nat_abs, length};
-ghost use Rattle.std.specs.Int.Signed.{le_z};
-ghost use Rattle.rules.specs.Points.{square};
+ghost use Rattle.std.specs.Prelude.{◌+◌, ◌<◌, ◌≤◌, length};
 ghost use Rattle.space.specs.Pairs.{Pairs};
 
-// How far x stands above y.
-fn above(x: i8, y: i8) -> u8
-    requires { T (le_z y x) }
-    ensures { result ≡ nat_abs (x -ℤ y) }
-{
-    ((x as i32) - (y as i32)) as u8
-}
-
-// How far x and y stand apart.
-fn gap(x: i8, y: i8) -> u8
-    ensures { result ≡ nat_abs (x -ℤ y) }
-{
-    if x < y { above(y, x) } else { above(x, y) }
-}
-
 // The squared difference at place i.
-fn pair(a: &[i8], b: &[i8], i: usize) -> u32
+pub(crate) fn pair(a: &[i8], b: &[i8], i: usize) -> u32
     requires { (i < length a.now) × (i < length b.now) }
     ensures { Pairs a.now b.now i 1 result }
 {
-    let d = gap(a[i], b[i]) as u32;
-    d * d
+    let gap = u32::from(a[i].abs_diff(b[i]));
+    gap * gap
 }
 
 fn four(a: &[i8], b: &[i8], i: usize) -> u32
@@ -54,20 +37,4 @@ pub(crate) fn thirty_two(a: &[i8], b: &[i8], i: usize) -> u32
         + four(a, b, i + 20)
         + four(a, b, i + 24)
         + four(a, b, i + 28)
-}
-
-// The squared difference of x and y.
-fn squared(x: i8, y: i8) -> u32
-    ensures { (result ≡ square (x -ℤ y)) × (nat_abs (x -ℤ y) ≤ 255) }
-{
-    let d = (x as i32) - (y as i32);
-    (d * d) as u32
-}
-
-// The same as pair, in the form that is best where few pairs are left.
-pub(crate) fn plain(a: &[i8], b: &[i8], i: usize) -> u32
-    requires { (i < length a.now) × (i < length b.now) }
-    ensures { Pairs a.now b.now i 1 result }
-{
-    squared(a[i], b[i])
 }

@@ -3,38 +3,42 @@
 
 ghost use Rattle.std.specs.Prelude.{◌≡◌, ◌≤◌, min, length, take};
 ghost use Rattle.rules.specs.Points.{dist};
-ghost use Rattle.rules.specs.Refusals.{outside, set_refusal, start_refusal, point_refusal};
-ghost use Rattle.rules.specs.Entries.{point_of};
+ghost use Rattle.rules.specs.Refusals.{outside, set_refusal, start_refusal};
+ghost use Rattle.space.specs.Told.{number_in};
 
 mod blocks;
+mod question;
+mod refusal;
+mod set;
+
+pub use question::{Asked, Question};
+pub use refusal::Refusal;
+pub use set::{Points, Set};
 
 // Whether x is below low or over high: the test of refusals 1, 2, 7, 8 and 11.
 pub fn is_outside(low: usize, high: usize, x: usize) -> bool
     ensures { result ≡ outside low high x }
 {
-    if x < low {
-        return true;
-    }
-    high < x
+    !(low..=high).contains(&x)
 }
 
-// Refusals 1, 2 and 3, with which every entry that is lent a set begins; 0 for none.
-pub fn set_refusal(n: usize, d: usize, len: usize) -> u8
-    ensures { result ≡ set_refusal n d len }
+// Refusals 1, 2 and 3, with which every entry that is lent a set begins.
+pub fn set_refusal(n: usize, d: usize, vectors: usize) -> Result<(), Refusal>
+    ensures { number_in result ≡ set_refusal n d vectors }
 {
     if is_outside(1, 128, n) {
-        return 1;
+        return Err(Refusal::Points);
     }
     if is_outside(1, 64, d) {
-        return 2;
+        return Err(Refusal::Coordinates);
     }
-    if len != n * d {
-        return 3;
+    if vectors != n * d {
+        return Err(Refusal::Vectors);
     }
-    0
+    Ok(())
 }
 
-// Refusals 1 to 6, with which every entry begins that is lent a set, its table, a query and an id to start from, by the lengths of what is lent; 0 for none.
+// Refusals 1 to 6, with which every entry begins that is lent a set, its table, a query and an id to start from, by the lengths of what is lent.
 pub fn start_refusal(
     n: usize,
     d: usize,
@@ -42,56 +46,27 @@ pub fn start_refusal(
     table: usize,
     query: usize,
     start: usize,
-) -> u8
-    ensures { result ≡ start_refusal n d vectors table query start }
+) -> Result<(), Refusal>
+    ensures { number_in result ≡ start_refusal n d vectors table query start }
 {
-    let refusal = set_refusal(n, d, vectors);
-    if refusal != 0 {
-        return refusal;
-    }
+    set_refusal(n, d, vectors)?;
     if table != n * n {
-        return 4;
+        return Err(Refusal::Table);
     }
     if query != d {
-        return 5;
+        return Err(Refusal::Query);
     }
     if n <= start {
-        return 6;
+        return Err(Refusal::Id);
     }
-    0
-}
-
-// The refusal number of point for the same inputs, or 0 for none.
-pub fn point_refusal(n: usize, d: usize, vectors: &[i8], id: usize) -> u8
-    ensures { result ≡ point_refusal n d (length vectors.now) id }
-{
-    let refusal = set_refusal(n, d, vectors.len());
-    if refusal != 0 {
-        return refusal;
-    }
-    if n <= id {
-        return 6;
-    }
-    0
-}
-
-// The coordinates of one point, as that part of the lent vectors; an empty part where the point is refused.
-pub fn point(n: usize, d: usize, vectors: &[i8], id: usize) -> &[i8]
-    ensures { result.now ≡ point_of n d vectors.now id }
-{
-    if point_refusal(n, d, vectors, id) != 0 {
-        return &vectors[0..0];
-    }
-    let at = id * d;
-    let end = at + d;
-    &vectors[at..end]
+    Ok(())
 }
 
 // The smaller of two numbers.
 pub fn smaller(x: usize, y: usize) -> usize
     ensures { result ≡ min x y }
 {
-    if x < y { x } else { y }
+    x.min(y)
 }
 
 // D of the first 64 pairs of coordinates; the pairs end with the shorter slice.
@@ -99,7 +74,7 @@ pub fn distance(a: &[i8], b: &[i8]) -> u32
     ensures value { result ≡ dist (take 64 a.now) (take 64 b.now) }
     ensures bounded { result ≤ 4161600 }
 {
-    let n = smaller(smaller(a.len(), b.len()), 64);
+    let n = a.len().min(b.len()).min(64);
     let mut sum: u32 = 0;
     let mut i = 0;
     while 32 <= n - i {
@@ -110,17 +85,8 @@ pub fn distance(a: &[i8], b: &[i8]) -> u32
         sum += blocks::sixteen(a, b, i);
         i += 16;
     }
-    while i < n {
-        sum += blocks::plain(a, b, i);
-        i += 1;
+    for last in i..n {
+        sum += blocks::pair(a, b, last);
     }
     sum
-}
-
-// D from a query to the point of an id.
-pub fn measure(n: usize, d: usize, vectors: &[i8], id: usize, query: &[i8]) -> u32
-    ensures value { result ≡ dist (take 64 (point_of n d vectors.now id)) (take 64 query.now) }
-    ensures bounded { result ≤ 4161600 }
-{
-    distance(point(n, d, vectors, id), query)
 }

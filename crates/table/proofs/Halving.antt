@@ -1,6 +1,6 @@
 -- The label by halving: what lies below passes, what lies above fails, and the largest that passes is between. Assumes nothing.
 use Prim.Native.Nat.{ℕ, ◌+◌, ◌-◌, ◌*◌, ◌/◌, ◌≤◌, ◌<◌}
-use mathlib.Core.Path.{◌≡◌, refl, sym, ap, subst, ◌∙◌}
+use mathlib.Core.Path.{◌≡◌, sym, ap, subst, ◌∙◌}
 use mathlib.Core.Bool.{Bool, true, false, cond, ◌&&◌}
 use mathlib.Core.Logic.{⊎_elim}
 use native.Mathlib.Nat.{mul-le-mul, lt_irrefl}
@@ -20,18 +20,8 @@ reached a b s h =
     (λ e. rw (e, lt-leb s (a - b) (omega (arith, leb-false (b + s) a e))))
     (both (leb (b + s) a))
 
-both_tests : (p q : Bool) (t low : ℕ) → cond q (cond p t low) low ≡ cond (p && q) t low
-both_tests true q t low = refl
-both_tests false true t low = refl
-both_tests false false t low = refl
-
--- the two choices, one after the other
-pub further_is : (a b t low : ℕ) {m x r q : ℕ} → 0 < t → m ≡ a - b → x ≡ m - t * t → r ≡ cond (leb (t * t) m) t low →
-    q ≡ cond (leb (4 * (t * t) * b) (x * x)) r low → q ≡ cond (reaches a b (t * t)) t low
-further_is a b t low h em ex er eq =
-    let s = t * t in
-    let tests = both_tests (leb s (a - b)) (leb (4 * s * b) ((a - b - s) * (a - b - s))) t low in
-    eq ∙ rw (er, ex, em) (tests ∙ rw (reached a b s (mul-le-mul h h)))
+pub further_is : (a b t : ℕ) {m x : ℕ} → 0 < t → m ≡ a - b → x ≡ m - t * t → reaches a b (t * t) ≡ leb (t * t) m && leb (4 * (t * t) * b) (x * x)
+further_is a b t h em ex = rw (ex, em) (reached a b (t * t) (mul-le-mul h h))
 
 pub record Halved (a b low width : ℕ) : Type 0 where
   pub some : 1 ≤ width

@@ -3,38 +3,47 @@ use Prim.Native.Nat.{ℕ, zero, suc, ◌≤◌, ◌<◌, min}
 use mathlib.Core.Path.{◌≡◌, refl, sym, ap, ◌∙◌}
 use mathlib.Core.Logic.{◌≢◌, ◌⊎◌, inl, inr, ⊎_elim}
 use mathlib.Core.Bool.{Bool, true, false, cond}
-use mathlib.Core.List.{List}
+use mathlib.Core.List.{List, [], ◌∷◌}
 use native.Mathlib.Nat.{not-suc-le-zero, lt_irrefl}
 use native.Mathlib.Omega.{arith}
 use lib.Dec.{leb, eqb}
-use lib.ListN.{get_or}
+use lib.ListN.{length, get_or}
+use Rattle.std.specs.Prelude.{fold}
 use borrow.Author.Tests.{leb-true, leb-false, eqb-true, eqb-false}
 use Rattle.rules.specs.Edges.{direct}
 use Rattle.rules.specs.Labels.{leads, label, label_of, cell}
-use Rattle.laws.proofs.Tests.{both, never, below, le_or_lt}
+use Rattle.laws.proofs.Tests.{both, never, le_or_lt}
 use Rattle.laws.proofs.Order.{first-none, first_some, first_cases}
 use Rattle.laws.proofs.Edges.{between_is, direct_rule}
 use Rattle.laws.proofs.Table.{cell-direct, cell-label, label-some, leads-is}
-use Rattle.table.specs.Kept.{Distances}
+use Rattle.table.specs.Kept.{Mutual}
 use Rattle.table.specs.Rows.{top, lowest, Least, cell_by}
 
 -- ---- of a list
 
-pub lowest-under : (l : List ℕ) (k i : ℕ) → i < k → lowest l k ≤ get_or l i 0
-unfolding lowest
-lowest-under l zero i h = absurd (not-suc-le-zero h)
-lowest-under l (suc k) i h = ⊎_elim (λ e. rw e (omega arith)) (λ j. omega (arith, lowest-under l k i j)) (below h)
+-- begun with any number
+fold-at_most : (l : List ℕ) (a : ℕ) → fold min a l ≤ a
+fold-at_most [] a = omega arith
+fold-at_most (x ∷ xs) a = omega (arith, fold-at_most xs (min a x))
 
-pub lowest-met : (l : List ℕ) (k : ℕ) → (lowest l k ≡ top) ⊎ ((i : ℕ) × (i < k) × (lowest l k ≡ get_or l i 0))
-unfolding lowest
-lowest-met l zero = inl refl
-lowest-met l (suc k) =
+fold-under : (l : List ℕ) (a i : ℕ) → i < length l → fold min a l ≤ get_or l i 0
+fold-under [] a i h = absurd (not-suc-le-zero h)
+fold-under (x ∷ xs) a zero h = omega (arith, fold-at_most xs (min a x))
+fold-under (x ∷ xs) a (suc i) h = fold-under xs (min a x) i (omega arith)
+
+fold-met : (l : List ℕ) (a : ℕ) → (fold min a l ≡ a) ⊎ ((i : ℕ) × (i < length l) × (fold min a l ≡ get_or l i 0))
+fold-met [] a = inl refl
+fold-met (x ∷ xs) a =
     ⊎_elim
-    (λ h.
-    let e : lowest l (suc k) ≡ lowest l k = omega arith in
-    ⊎_elim (λ t. inl (e ∙ t)) (λ f. inr (f.0, omega (arith, f.1), e ∙ f.2)) (lowest-met l k))
-    (λ h. inr (k, omega arith, omega arith))
-    (le_or_lt (lowest l k) (get_or l k 0))
+    (λ e. ⊎_elim (λ h. inl (omega (arith, e))) (λ h. inr (0, omega arith, omega (arith, e))) (le_or_lt a x))
+    (λ f. inr (suc f.0, omega (arith, f.1), f.2))
+    (fold-met xs (min a x))
+
+pub lowest-under : (l : List ℕ) (i : ℕ) → i < length l → lowest l ≤ get_or l i 0
+lowest-under l i h = fold-under l top i h
+
+pub lowest-met : (l : List ℕ) → (lowest l ≡ top) ⊎ ((i : ℕ) × (i < length l) × (lowest l ≡ get_or l i 0))
+lowest-met l = fold-met l top
 
 -- ---- of the ids that pass
 
@@ -65,7 +74,7 @@ least-add {key} {n} {m} {v} {p} {q} b least l f e same = go b e
 
 -- ---- the cell by the least distance
 
-module _ {δ : ℕ → ℕ → ℕ} {n u v m : ℕ} (kept : Distances δ n) (lu : u < n) (lv : v < n) (d : u ≢ v) (least : Least (λ w. δ w v) n (leads δ n u v) m) where
+module _ {δ : ℕ → ℕ → ℕ} {n u v m : ℕ} (kept : Mutual δ n) (lu : u < n) (lv : v < n) (d : u ≢ v) (least : Least (λ w. δ w v) n (leads δ n u v) m) where
   -- a leading point that is nearer to v than u is stands between, with a direct edge
   hidden : (w : ℕ) → w < n → leads δ n u v w ≡ true → δ w v < δ u v → direct δ n u v ≡ false
   hidden w lw e h =

@@ -1,5 +1,4 @@
 -- Laws that the proofs of `table` share.
-pub mod Products
 pub mod Halving
 pub mod Filling
 pub mod Mapped

@@ -1,7 +1,10 @@
 -- One id of a row after the other: the first of those that wait gets its cell, and then leads if its edge is direct. Assumes nothing.
 use Prim.Native.Nat.{ℕ, ◌+◌, ◌*◌, ◌/◌, ◌%◌, ◌≤◌, ◌<◌, min}
 use mathlib.Core.Path.{◌≡◌, refl, sym, ap, subst, ◌∙◌}
-use mathlib.Core.Logic.{◌≢◌, inl, inr, ⊎_elim}
+use mathlib.Core.Logic.{◌≢◌, inl, inr, ⊎_elim, ∥∥₁_elim, ∥∥₁_map}
+use Rattle.std.proofs.Math.Nat.{ℕ_set}
+use Rattle.std.proofs.Math.Bool.{Bool-set}
+use Rattle.std.proofs.Math.Bridge.{le_prop}
 use mathlib.Core.Bool.{Bool, true, false, cond, ◌&&◌}
 use mathlib.Core.List.{List}
 use native.Mathlib.Nat.{lt_irrefl}
@@ -15,7 +18,7 @@ use Rattle.rules.specs.Order.{keyed}
 use Rattle.rules.specs.Labels.{leads, cell}
 use Rattle.laws.proofs.Tests.{both, and_l, and_i, and_false}
 use Rattle.laws.proofs.Table.{leads-is}
-use Rattle.table.specs.Kept.{Distances}
+use Rattle.table.specs.Kept.{Mutual}
 use Rattle.table.specs.Rows.{top, lowest, Least, done, led, Spread, cell_by, Waiting, Sofar}
 use Rattle.table.proofs.Least.{lowest-under, lowest-met, least-add, direct-by, cell_by_lem}
 
@@ -50,10 +53,10 @@ pub record Chosen (δ : ℕ → ℕ → ℕ) (n u : ℕ) (left : List ℕ) (key 
   pub nearer : (w : ℕ) → w < n → δ u w < δ u v → done left w ≡ true
 
 -- the id whose key is the first
-chosen_at : {δ : ℕ → ℕ → ℕ} {n u key : ℕ} {left : List ℕ} (v : ℕ) → n ≤ 128 → Waiting δ n u left → key ≡ lowest left 128 → key < top → v < n → v ≢ u →
+chosen_at : {δ : ℕ → ℕ → ℕ} {n u key : ℕ} {left : List ℕ} (v : ℕ) → n ≤ 128 → length left ≡ 128 → Waiting δ n u left → key ≡ lowest left → key < top → v < n → v ≢ u →
     key ≡ δ u v * 128 + v → get_or left v 0 ≡ key → Chosen δ n u left key v
 unfolding keyed
-chosen_at {δ} {n} {u} {key} {left} v few waiting e h l d k g = record {
+chosen_at {δ} {n} {u} {key} {left} v few long waiting e h l d k g = record {
   place = rw k (digits_mod (δ u v) (omega arith));
   far = rw k (digits_div (δ u v) (omega arith));
   below = l;
@@ -62,24 +65,24 @@ chosen_at {δ} {n} {u} {key} {left} v few waiting e h l d k g = record {
   nearer = λ w lw near.
       ⊎_elim
       (λ t. done-top left w t)
-      (λ f. absurd (lt_irrefl (δ u w) (omega (arith, f.2, lowest-under left 128 w (omega arith)))))
+      (λ f. absurd (lt_irrefl (δ u w) (omega (arith, f.2, lowest-under left w (omega arith)))))
       (waiting w (omega arith));
 }
 
-pub chosen : {δ : ℕ → ℕ → ℕ} {n u key : ℕ} {left : List ℕ} → n ≤ 128 → Waiting δ n u left → key ≡ lowest left 128 → key < top →
+pub chosen : {δ : ℕ → ℕ → ℕ} {n u key : ℕ} {left : List ℕ} → n ≤ 128 → length left ≡ 128 → Waiting δ n u left → key ≡ lowest left → key < top →
     Chosen δ n u left key (key % 128)
 unfolding keyed
-chosen {δ} {n} {u} {key} {left} few waiting e h =
+chosen {δ} {n} {u} {key} {left} few long waiting e h =
     ⊎_elim
     (λ t. absurd (lt_irrefl top (omega (arith, t))))
     (λ f.
     ⊎_elim
     (λ t. absurd (lt_irrefl top (omega (arith, f.2, t))))
     (λ g.
-    let c : Chosen δ n u left key f.0 = chosen_at f.0 few waiting e h g.0 g.1 (e ∙ f.2 ∙ g.2) (sym (e ∙ f.2)) in
+    let c : Chosen δ n u left key f.0 = chosen_at f.0 few long waiting e h g.0 g.1 (e ∙ f.2 ∙ g.2) (sym (e ∙ f.2)) in
     subst (Chosen δ n u left key) (sym c.place) c)
-    (waiting f.0 f.1))
-    (lowest-met left 128)
+    (waiting f.0 (omega (arith, f.1))))
+    (lowest-met left)
 
 -- ---- its cell
 
@@ -91,7 +94,7 @@ cond-cond : (a b : Bool) (y z : ℕ) → cond a (cond b y z) z ≡ cond (a && b)
 cond-cond true b y z = refl
 cond-cond false b y z = refl
 
-module _ {δ : ℕ → ℕ → ℕ} {n u key v : ℕ} {left lead : List ℕ} (kept : Distances δ n) (lu : u < n) (sofar : Sofar δ n u left lead)
+module _ {δ : ℕ → ℕ → ℕ} {n u key v : ℕ} {left lead : List ℕ} (kept : Mutual δ n) (lu : u < n) (sofar : Sofar δ n u left lead)
     (c : Chosen δ n u left key v) where
   -- every point that leads towards v is decided
   least : Least (λ w. δ w v) n (leads δ n u v) (get_or lead v 0)
@@ -153,29 +156,38 @@ module _ {δ : ℕ → ℕ → ℕ} {n u key v : ℕ} {left lead : List ℕ} (ke
 
 -- ---- the same, by the first key
 
-module _ {δ : ℕ → ℕ → ℕ} {n u key : ℕ} {left lead : List ℕ} (kept : Distances δ n) (lu : u < n) (sofar : Sofar δ n u left lead) (e : key ≡ lowest left 128)
+module _ {δ : ℕ → ℕ → ℕ} {n u key : ℕ} {left lead : List ℕ} (kept : Mutual δ n) (lu : u < n) (sofar : ∥ Sofar δ n u left lead ∥₁) (e : key ≡ lowest left)
     (h : key < top) where
-  first : Chosen δ n u left key (key % 128)
-  first = chosen kept.few sofar.waiting e h
+  first : Sofar δ n u left lead → Chosen δ n u left key (key % 128)
+  first s = chosen kept.few s.long_left s.waiting e h
+
+  pub first_long : length left ≡ 128
+  first_long = ∥∥₁_elim sofar (ℕ_set _ _) (λ s. s.long_left)
 
   -- the id is one of the set's, and its distance within the limit
   pub first_below : key % 128 < n
-  first_below = first.below
+  first_below = ∥∥₁_elim sofar le_prop (λ s. (first s).below)
 
   pub first-waits : done left (key % 128) ≡ false
-  first-waits = first.waiting
+  first-waits = ∥∥₁_elim sofar (Bool-set _ _) (λ s. (first s).waiting)
 
   pub first_small : key / 128 ≤ 4161600
-  first_small = rw first.far (kept.small u (key % 128) lu first_below)
+  first_small = ∥∥₁_elim sofar le_prop (λ s. rw (first s).far (kept.small u (key % 128) lu first_below))
 
   pub first_cell : {x : ℕ} → x ≡ cell_by (key / 128) (get_or lead (key % 128) 0) → x ≡ cell δ n u (key % 128)
-  first_cell p = p ∙ ap (λ (k : ℕ). cell_by k (get_or lead (key % 128) 0)) first.far ∙ sym (settled_cell kept lu sofar first)
+  first_cell p =
+      ∥∥₁_elim
+      sofar
+      (ℕ_set _ _)
+      (λ s. p ∙ ap (λ (k : ℕ). cell_by k (get_or lead (key % 128) 0)) (first s).far ∙ sym (settled_cell kept lu s (first s)))
 
   -- where its edge is direct it leads from now on, and otherwise it does not
   pub first-leads : {lead' : List ℕ} → leb (key / 128) (get_or lead (key % 128) 0) ≡ true → Spread δ u (key % 128) lead lead' →
-      Sofar δ n u (set left (key % 128) top) lead'
+      ∥ Sofar δ n u (set left (key % 128) top) lead' ∥₁
   first-leads {lead'} t spread =
-      settled kept lu sofar first lead' spread.long (λ x l. spread.each x (omega (arith, kept.few)) ∙ rw (rw first.far at t))
+      ∥∥₁_map
+      sofar
+      (λ s. settled kept lu s (first s) lead' spread.long (λ x l. spread.each x (omega (arith, kept.few)) ∙ rw (rw (first s).far at t)))
 
-  pub first_stays : leb (key / 128) (get_or lead (key % 128) 0) ≡ false → Sofar δ n u (set left (key % 128) top) lead
-  first_stays f = settled kept lu sofar first lead sofar.long_lead (λ x l. rw (rw first.far at f))
+  pub first_stays : leb (key / 128) (get_or lead (key % 128) 0) ≡ false → ∥ Sofar δ n u (set left (key % 128) top) lead ∥₁
+  first_stays f = ∥∥₁_map sofar (λ s. settled kept lu s (first s) lead s.long_lead (λ x l. rw (rw (first s).far at f)))

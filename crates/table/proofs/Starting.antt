@@ -1,5 +1,5 @@
 -- The start of a row: all ids but u wait, and none leads. Assumes nothing.
-use Prim.Native.Nat.{ℕ, ◌+◌, ◌≤◌, ◌<◌}
+use Prim.Native.Nat.{ℕ, ◌≤◌, ◌<◌}
 use mathlib.Core.Path.{◌≡◌, sym, ap, ◌∙◌}
 use mathlib.Core.Logic.{inl, inr, ⊎_elim}
 use mathlib.Core.Bool.{true}
@@ -14,7 +14,7 @@ use Rattle.rules.specs.Order.{keyed}
 use Rattle.rules.specs.Labels.{leads}
 use Rattle.laws.proofs.Tests.{both, and_l, and_r, le_or_lt}
 use Rattle.laws.proofs.Table.{leads-is, cell_self}
-use Rattle.table.specs.Kept.{Distances}
+use Rattle.table.specs.Kept.{Mutual}
 use Rattle.table.specs.Rows.{top, done, Queued, Sofar, Written}
 use Rattle.table.proofs.Mapped.{Mapped}
 use Rattle.table.proofs.Settled.{done-is}
@@ -42,12 +42,12 @@ queued {δ} {n} {u} {k} {old} {new} few lu e s m =
     }
 
 -- a key is below the largest number
-pub keyed-small : {δ : ℕ → ℕ → ℕ} {n : ℕ} (u v : ℕ) → Distances δ n → u < n → v < n → keyed (δ u) v < top
+pub keyed-small : {δ : ℕ → ℕ → ℕ} {n : ℕ} (u v : ℕ) → Mutual δ n → u < n → v < n → keyed (δ u) v < top
 unfolding keyed
 keyed-small u v kept lu lv = omega (arith, kept.small u v lu lv, kept.few)
 
 pub sofar_none : {δ : ℕ → ℕ → ℕ} {n u : ℕ} {left lead : List ℕ}
-    → Distances δ n
+    → Mutual δ n
     → u < n
     → Queued δ n u left
     → lead ≡ replicate 128 top
@@ -73,13 +73,13 @@ sofar_none {δ} {n} {u} {left} {lead} kept lu q e = record {
         lt_irrefl top (omega (arith, done-is left w f, q.ids w lw (λ s. other (sym s)), keyed-small u w kept lu lw))
 
 -- only u has its cell at first
-pub written_none : {δ : ℕ → ℕ → ℕ} {n u at : ℕ} {left : List ℕ} (table : List ℕ) → Distances δ n → u < n → at + n ≤ length table → Queued δ n u left →
-    Written δ n u at left (set table (at + u) 65535)
-written_none {δ} {n} {u} {at} {left} table kept lu room q = record {
-  room = simp length-set room;
-  cells = λ v l f.
+pub written_none : {δ : ℕ → ℕ → ℕ} {n u : ℕ} {left : List ℕ} (cells : List ℕ) → Mutual δ n → u < n → length cells ≡ n → Queued δ n u left →
+    Written δ n u left (set cells u 65535)
+written_none {δ} {n} {u} {left} cells kept lu long q = record {
+  long = simp length-set long;
+  decided = λ v l f.
       ⊎_elim
-      (λ s. rw (eqb-true v u s) (get_or-set_same table (at + u) 65535 0 (omega arith) ∙ sym (cell_self δ n u)))
+      (λ s. rw (eqb-true v u s) (get_or-set_same cells u 65535 0 (omega arith) ∙ sym (cell_self δ n u)))
       (λ s. absurd (lt_irrefl top (omega (arith, done-is left v f, q.ids v l (eqb-false v u s), keyed-small u v kept lu l))))
       (both (eqb v u));
 }

@@ -1,52 +1,61 @@
 -- Row after row: the table is that of document 01 once all rows are written. Assumes nothing.
 use Prim.Native.Nat.{ℕ, ◌+◌, ◌*◌, ◌/◌, ◌%◌, ◌≤◌, ◌<◌}
-use mathlib.Core.Path.{◌≡◌, sym, subst, ◌∙◌}
-use mathlib.Core.Logic.{inl, ⊎_elim}
+use mathlib.Core.Path.{◌≡◌, sym, ap, subst, ◌∙◌}
+use mathlib.Core.Logic.{⊎_elim}
 use mathlib.Core.List.{List}
-use native.Mathlib.Nat.{lt_irrefl, mul-le-mul_right, suc-mul, zero-mul, div-add-mod', div-lt_iff_lt-mul, mod-lt}
+use native.Mathlib.Nat.{mul-le-mul_right, suc-mul, div-add-mod', div-lt_iff_lt-mul, mod-lt}
 use native.Mathlib.Numerals.{add-one}
 use native.Mathlib.Omega.{arith}
 use lib.ListN.{length, get_or}
 use lib.Seq.{ext_get_or}
+use borrow.Rule.Slice.PartMut.{put_mid}
+use Rattle.std.proofs.lemmas.List.{places}
 use lib.IntN.{ℤ}
 use Rattle.rules.specs.Points.{apart}
 use Rattle.rules.specs.Labels.{cell, table_of}
-use Rattle.rules.specs.Refusals.{set_refusal, build_refusal}
+use Rattle.rules.specs.Refusals.{build_refusal}
+use Rattle.rules.specs.Entries.{table_after}
+use Rattle.laws.proofs.Refusals.{after_new}
 use Rattle.laws.proofs.Tests.{below}
 use Rattle.laws.proofs.Table.{table-length, table_at, some-row, table_same}
-use Rattle.laws.proofs.Refusals.{set_ok, else_both, skipped, alike}
-use Rattle.laws.proofs.RefusalOrder.{build_order}
-use Rattle.table.specs.Kept.{far, Filled, Distances}
-use Rattle.table.specs.Rows.{RowIn}
-use Rattle.table.proofs.Filling.{apart_comm}
+use Rattle.table.specs.Kept.{far, Filled}
+use Rattle.table.specs.Rows.{RowOf}
 
--- the rows below u are written, and row u begins at `at`
-pub record RowsIn (δ : ℕ → ℕ → ℕ) (n u at : ℕ) (table : List ℕ) : Type 0 where
-  pub place : at ≡ u * n
+-- the rows below u are written
+pub record RowsIn (δ : ℕ → ℕ → ℕ) (n u : ℕ) (table : List ℕ) : Type 0 where
   pub long : length table ≡ n * n
-  pub cells : (i v : ℕ) → i < u → v < n → get_or table (i * n + v) 0 ≡ cell δ n i v
-
-pub rows_none : {δ : ℕ → ℕ → ℕ} {n : ℕ} {table : List ℕ} → length table ≡ n * n → RowsIn δ n 0 0 table
-rows_none {δ} {n} e = record { place = sym (zero-mul n); long = e; cells = λ i v li lv. absurd (lt_irrefl 0 (omega (arith, li))) }
+  pub each : (i v : ℕ) → i < u → v < n → get_or table (i * n + v) 0 ≡ cell δ n i v
 
 -- a row ends where the next begins
-before : (n i u : ℕ) → i < u → i * n + n ≤ u * n
+pub before : (n i u : ℕ) → i < u → i * n + n ≤ u * n
 before n i u l = omega (arith, mul-le-mul_right n l, suc-mul i n)
 
-module _ {δ : ℕ → ℕ → ℕ} {n u at : ℕ} {table : List ℕ} (rows : RowsIn δ n u at table) where
-  pub row_room : u < n → at + n ≤ length table
-  row_room l = omega (arith, before n u n l, rows.place, rows.long)
+-- what a table holds once n cells from a on are written
+module _ (a n : ℕ) (table row : List ℕ) (room : a + n ≤ length table) (long : length row ≡ n) where
+  put-long : length (put_mid a n table row) ≡ length table
+  put-long = grind (arith, places)
 
-  pub rows_more : {table' : List ℕ} → RowIn δ n u at table table' → RowsIn δ n (u + 1) (at + n) table'
-  rows_more {table'} row = record {
-    place = rw (add-one u, suc-mul u n) (omega (arith, rows.place));
-    long = row.long ∙ rows.long;
-    cells = λ i v li lv.
-        ⊎_elim
-        (λ s. rw s (subst (λ (p : ℕ). get_or table' (p + v) 0 ≡ cell δ n u v) rows.place (row.cells v lv)))
-        (λ l. row.others (i * n + v) (inl (omega (arith, before n i u l, rows.place))) ∙ rows.cells i v l lv)
-        (below (rw add-one at li));
-  }
+  put_inside : (v : ℕ) → v < n → get_or (put_mid a n table row) (a + v) 0 ≡ get_or row v 0
+  put_inside v l = grind (arith, places)
+
+  put_before : (i : ℕ) → i < a → get_or (put_mid a n table row) i 0 ≡ get_or table i 0
+  put_before i l = grind (arith, places)
+
+module _ {δ : ℕ → ℕ → ℕ} {n u : ℕ} {table : List ℕ} (rows : RowsIn δ n u table) where
+  pub row_room : u < n → u * n + n ≤ length table
+  row_room l = omega (arith, before n u n l, rows.long)
+
+  pub rows_more : u < n → (k : ℕ) → k ≡ n → {table' row : List ℕ} → table' ≡ put_mid (u * n) k table row → RowOf δ n u row → RowsIn δ n (u + 1) table'
+  rows_more lu k e {table'} {row} whole row_of =
+      let put : table' ≡ put_mid (u * n) n table row = whole ∙ ap (λ j. put_mid (u * n) j table row) e in
+      record {
+        long = rw put (put-long (u * n) n table row (row_room lu) row_of.long ∙ rows.long);
+        each = λ i v li lv.
+            ⊎_elim
+            (λ s. rw s (rw put (put_inside (u * n) n table row (row_room lu) row_of.long v lv ∙ row_of.each v lv)))
+            (λ l. rw put (put_before (u * n) n table row (row_room lu) row_of.long (i * n + v) (omega (arith, before n i u l)) ∙ rows.each i v l lv))
+            (below (rw add-one at li));
+      }
 
   pub rows_end : u ≡ n → table ≡ table_of δ n
   rows_end e =
@@ -58,22 +67,11 @@ module _ {δ : ℕ → ℕ → ℕ} {n u at : ℕ} {table : List ℕ} (rows : Ro
       subst
       (λ (j : ℕ). get_or table j 0 ≡ get_or (table_of δ n) j 0)
       (div-add-mod' i n)
-      (rows.cells (i / n) (i % n) (omega arith) lv ∙ sym (table_at δ n (i / n) (i % n) lu lv))
+      (rows.each (i / n) (i % n) (omega arith) lv ∙ sym (table_at δ n (i / n) (i % n) lu lv))
 
--- ---- from the refusal to the kept distances, and from those to the set's
-
-pub build_ok : (n d vectors table : ℕ) → build_refusal n d vectors table ≡ 0 → (set_refusal n d vectors ≡ 0) × (table ≡ n * n)
-build_ok n d vectors table e =
-    let parts = else_both (set_refusal n d vectors) _ (sym (build_order n d vectors table) ∙ e) in
-    (parts.0, alike table (n * n) (skipped _ 3 0 parts.1).0)
-
-module _ {n : ℕ} {between : List ℕ} (d : ℕ) (vectors : List ℤ) (filled : Filled (apart d vectors) n between) where
-  pub kept_distances : set_refusal n d (length vectors) ≡ 0 → Distances (far between) n
-  kept_distances ok = record {
-    few = (set_ok n d (length vectors) ok).few-points;
-    symm = λ u v lu lv. (filled.entries u v lu lv).is ∙ apart_comm d vectors u v ∙ sym (filled.entries v u lv lu).is;
-    small = λ u v lu lv. rw (filled.entries u v lu lv).is (filled.entries u v lu lv).small;
-  }
-
-  pub set-table : table_of (far between) n ≡ table_of (apart d vectors) n
-  set-table = table_same (far between) (apart d vectors) n (λ u v lu lv. (filled.entries u v lu lv).is)
+-- the kept distances are the set's, where it is not refused
+pub built : {n : ℕ} {between : List ℕ} (d : ℕ) (vectors : List ℤ) (table : List ℕ) → Filled (apart d vectors) n between →
+    0 ≡ build_refusal n d (length vectors) (length table) → table_of (far between) n ≡ table_after n d vectors table
+unfolding table_after
+built {n} {between} d vectors table filled e =
+    table_same (far between) (apart d vectors) n (λ u v lu lv. filled.each u v lu lv) ∙ sym (after_new (sym e) _ _)

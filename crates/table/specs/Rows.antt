@@ -1,5 +1,5 @@
 -- A row of the table: the ids get their cells in order from u, so that of each id all that could stand between are decided before it.
-use Rattle.std.specs.Prelude.{ℕ, zero, suc, ◌+◌, ◌≤◌, ◌<◌, min, ◌≡◌, ◌≢◌, ◌⊎◌, Bool, true, cond, ◌&&◌, List, eqb, ltb, leb, length, get_or}
+use Rattle.std.specs.Prelude.{ℕ, ◌≤◌, ◌<◌, min, ◌≡◌, ◌≢◌, ◌⊎◌, Bool, true, cond, ◌&&◌, List, eqb, ltb, leb, length, get_or, fold}
 use Rattle.rules.specs.Order.{keyed}
 use Rattle.rules.specs.Labels.{label_of, leads, cell}
 
@@ -7,10 +7,9 @@ use Rattle.rules.specs.Labels.{label_of, leads, cell}
 abbrev pub top : ℕ
 top = 4294967295
 
--- the least of the first k numbers of a list
-unfoldable pub lowest : List ℕ → ℕ → ℕ
-lowest l zero = top
-lowest l (suc k) = min (lowest l k) (get_or l k 0)
+-- the least number of a list
+abbrev pub lowest : List ℕ → ℕ
+lowest l = fold min top l
 
 -- m is the least key of the ids below n that pass, or `top` where none passes
 pub record Least (key : ℕ → ℕ) (n : ℕ) (p : ℕ → Bool) (m : ℕ) : Type 0 where
@@ -56,13 +55,12 @@ module _ (δ : ℕ → ℕ → ℕ) (n u : ℕ) where
     pub waiting : Waiting left
     pub leading : Leading left lead
 
-  -- those that do not wait have their cells in the row that begins at `at`
-  pub record Written (at : ℕ) (left table : List ℕ) : Type 0 where
-    pub room : at + n ≤ length table
-    pub cells : (v : ℕ) → v < n → done left v ≡ true → get_or table (at + v) 0 ≡ cell δ n u v
+  -- those that do not wait have their cells in the row
+  pub record Written (left cells : List ℕ) : Type 0 where
+    pub long : length cells ≡ n
+    pub decided : (v : ℕ) → v < n → done left v ≡ true → get_or cells v 0 ≡ cell δ n u v
 
-  -- a table after row u is written from `at` on: its cells, and all others as they were
-  pub record RowIn (at : ℕ) (old new : List ℕ) : Type 0 where
-    pub long : length new ≡ length old
-    pub cells : (v : ℕ) → v < n → get_or new (at + v) 0 ≡ cell δ n u v
-    pub others : (i : ℕ) → (i < at) ⊎ (at + n ≤ i) → get_or new i 0 ≡ get_or old i 0
+  -- the row's cells
+  pub record RowOf (cells : List ℕ) : Type 0 where
+    pub long : length cells ≡ n
+    pub each : (v : ℕ) → v < n → get_or cells v 0 ≡ cell δ n u v

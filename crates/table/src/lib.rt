@@ -1,53 +1,38 @@
 // The label table of a set.
 #![tactic(auto)]
 
-ghost use Rattle.std.specs.Prelude.{◌≡◌, ◌-◌, ◌*◌, ◌<◌, ◌≤◌, min, cond, length};
-ghost use Rattle.rules.specs.Points.{apart};
-ghost use Rattle.rules.specs.Labels.{reaches, label_of, table_of};
+ghost use Rattle.std.specs.Prelude.{◌≡◌, ◌*◌, ◌<◌, ◌≤◌, min, cond, length, IfOk, OnOk};
+ghost use Rattle.rules.specs.Labels.{reaches, label_of};
 ghost use Rattle.rules.specs.Refusals.{build_refusal};
 ghost use Rattle.rules.specs.Entries.{table_after};
+ghost use Rattle.space.specs.Told.{number_in};
 
 mod kept;
 mod rows;
 
-// A squared distance, or the largest possible one where x is none.
-fn capped(x: u32) -> u32
-    ensures { result ≡ min x 4161600 }
-{
-    if x < 4161600 { x } else { 4161600 }
-}
+use kept::Distances;
+use rows::write_rows;
+use space::{Points, Refusal, Set};
 
-// x less y, and 0 where y is larger.
-fn less(x: u64, y: u64) -> u64
-    ensures { result ≡ x - y }
-{
-    if x < y { 0 } else { x - y }
-}
-
-// The choice as a function, which the compiler makes without a branch.
-fn either(test: bool, x: u64, y: u64) -> u64
-    ensures { result ≡ cond test x y }
-{
-    if test { x } else { y }
-}
-
-// t where it does not exceed the root of a less the root of b, and low where it does. Both tests are made each time, so that the code has no branch.
+// t where it does not exceed the root of a less the root of b, and low where it does. Both tests are made each time, since a branch between them
+// takes the build from 1.08 to 1.19 ms at 64 coordinates.
 fn further(a: u64, b: u64, low: u64, t: u64) -> u64
     requires { (a ≤ 1065369600) × (b ≤ 1065369600) × (0 < t) × (t ≤ 32767) }
     ensures { result ≡ cond (reaches a b (t * t)) t low }
 {
     let s = t * t;
-    let most = less(a, b);
-    let x = less(most, s);
-    either(4 * s * b <= x * x, either(s <= most, t, low), low)
+    let most = a.saturating_sub(b);
+    let x = most.saturating_sub(s);
+    let reaches = (s <= most) & (4 * s * b <= x * x);
+    if reaches { t } else { low }
 }
 
 // The label of an edge from D(u,v) and D(w,v), by halving. A number past the largest squared distance counts as that.
 pub fn label(duv: u32, dwv: u32) -> u16
     ensures { result ≡ label_of (min duv 4161600) (min dwv 4161600) }
 {
-    let a = 256 * (capped(duv) as u64);
-    let b = 256 * (capped(dwv) as u64);
+    let a = 256 * u64::from(duv.min(4161600));
+    let b = 256 * u64::from(dwv.min(4161600));
     let mut low: u64 = 0;
     let mut width: u64 = 32768;
     while 1 < width {
@@ -58,38 +43,25 @@ pub fn label(duv: u32, dwv: u32) -> u16
     low as u16
 }
 
-// Refusals 1 to 4; 0 for none.
-fn build_refusal(n: usize, d: usize, vectors: usize, table: usize) -> u8
-    ensures { result ≡ build_refusal n d vectors table }
+// Refusals 1 to 4; where there is none, the set as one that is not refused.
+fn check<'a>(set: &Set<'a>, table: usize) -> Result<Points<'a>, Refusal>
+    ensures refusal { number_in result ≡ build_refusal set.now.n set.now.d (length set.now.vectors.now) table }
+    ensures same { IfOk result (λ points. points.set ≡ set.now) }
+    ensures table { OnOk result (table ≡ set.now.n * set.now.n) }
 {
-    let refusal = space::set_refusal(n, d, vectors);
-    if refusal != 0 {
-        return refusal;
+    let points = set.check()?;
+    if table != set.n * set.n {
+        return Err(Refusal::Table);
     }
-    if table != n * n {
-        return 4;
-    }
-    0
+    Ok(points)
 }
 
-// The table of a set that is not refused.
-fn write(n: usize, d: usize, vectors: &[i8], table: &mut [u16])
-    requires { build_refusal n d (length vectors.now) (length table.old) ≡ 0 }
-    ensures { table.new ≡ table_of (apart d vectors.now) n }
+// The label table of a set, in the lent cells. Where it refuses, they stay as they were.
+pub fn build(set: &Set<'_>, table: &mut [u16]) -> Result<(), Refusal>
+    ensures value { number_in result ≡ build_refusal set.now.n set.now.d (length set.now.vectors.now) (length table.old) }
+    ensures written { table.new ≡ table_after set.now.n set.now.d set.now.vectors.now table.old }
 {
-    let mut between = [0u32; 16384];
-    kept::fill(n, d, vectors, &mut between);
-    rows::rows(n, &between, table);
-}
-
-// The label table of a set, in the lent cells; the refusal number, or 0 for none.
-pub fn build(n: usize, d: usize, vectors: &[i8], table: &mut [u16]) -> u8
-    ensures value { result ≡ build_refusal n d (length vectors.now) (length table.old) }
-    ensures written { table.new ≡ table_after n d vectors.now table.old }
-{
-    let refusal = build_refusal(n, d, vectors.len(), table.len());
-    if refusal == 0 {
-        write(n, d, vectors, table);
-    }
-    refusal
+    let points = check(set, table.len())?;
+    write_rows(&Distances::of(&points), table);
+    Ok(())
 }

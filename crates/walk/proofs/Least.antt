@@ -1,51 +1,18 @@
 -- The least key below a limit: one more id, and where a step moves to by it. Assumes nothing.
 use Prim.Native.Nat.{ℕ, zero, suc, ◌+◌, ◌*◌, ◌/◌, ◌%◌, ◌≤◌, ◌<◌, min}
-use native.Mathlib.Nat.{mul-le-mul_right, suc-mul, lt_irrefl}
+use native.Mathlib.Nat.{lt_irrefl}
 use native.Mathlib.Numerals.{add-one}
 use native.Mathlib.Omega.{arith}
 use mathlib.Core.Path.{◌≡◌, refl, ap, ◌∙◌}
-use mathlib.Core.Logic.{◌≢◌, ⊎_elim}
+use mathlib.Core.Logic.{⊎_elim}
 use mathlib.Core.Bool.{Bool, true, false, cond}
 use mathlib.Core.Option.{Option, none, some}
-use mathlib.Core.List.{List}
 use lib.Dec.{ltb}
-use lib.ListN.{get_or}
-use borrow.Author.Tests.{eq-eqb, ne_eqb, le-leb, lt-leb, lt-ltb, le-ltb, ltb-true, ltb-false}
+use borrow.Author.Tests.{lt-ltb, le-ltb, ltb-true, ltb-false}
 use Rattle.rules.specs.Order.{pick, first, keyed}
-use Rattle.rules.specs.Labels.{edge_in}
 use Rattle.rules.specs.Walk.{step_to}
 use Rattle.laws.proofs.Order.{first_some, first_cases}
 use Rattle.walk.specs.Least.{least}
-
--- ---- an edge of the table
-
--- the cell of two ids is in the table
-pub cell_in : (n u v : ℕ) → u < n → v < n → u * n + v < n * n
-cell_in n u v lu lv = omega (arith, mul-le-mul_right n lu, suc-mul u n)
-
-pub no_edge_self : (table : List ℕ) (n m u v : ℕ) → u ≡ v → edge_in table n m u v ≡ false
-unfolding edge_in
-no_edge_self table n m u v e = rw (eq-eqb u v e)
-
-pub no_edge_above : (table : List ℕ) (n m u v : ℕ) → u ≢ v → m < get_or table (u * n + v) 0 → edge_in table n m u v ≡ false
-unfolding edge_in
-no_edge_above table n m u v d l = rw (ne_eqb u v d, lt-leb (get_or table (u * n + v) 0) m l)
-
-pub edge_there : (table : List ℕ) (n m u v : ℕ) → u ≢ v → get_or table (u * n + v) 0 ≤ m → edge_in table n m u v ≡ true
-unfolding edge_in
-edge_there table n m u v d l = rw (ne_eqb u v d, le-leb (get_or table (u * n + v) 0) m l)
-
--- ---- the smaller of two keys, where there is an edge
-
-module _ {b : Bool} (key best : ℕ) where
-  pub without_edge : b ≡ false → best ≡ cond b (min key best) best
-  without_edge e = rw e
-
-  pub with_smaller : b ≡ true → (k : ℕ) → k ≡ key → k < best → k ≡ cond b (min key best) best
-  with_smaller e k q l = rw e (omega arith)
-
-  pub with_larger : b ≡ true → (k : ℕ) → k ≡ key → best ≤ k → best ≡ cond b (min key best) best
-  with_larger e k q l = rw e (omega arith)
 
 -- ---- the least key
 

@@ -1,61 +1,43 @@
 -- A walk on its way: what its loop keeps, how that goes on, and where it ends. Assumes nothing.
-use Prim.Native.Nat.{ℕ, ◌+◌, ◌*◌, ◌/◌, ◌%◌, ◌≤◌, ◌<◌}
+use Prim.Native.Nat.{ℕ, ◌+◌, ◌≤◌, ◌<◌}
 use native.Mathlib.Numerals.{add-one}
+use native.Mathlib.Omega.{arith}
 use mathlib.Core.Path.{◌≡◌, sym, ap, ◌∙◌}
-use mathlib.Core.Bool.{Bool}
-use mathlib.Core.Option.{some}
-use mathlib.Core.List.{List}
-use lib.IntN.{ℤ}
-use Rattle.rules.specs.Points.{away}
-use Rattle.rules.specs.Order.{keyed}
-use Rattle.rules.specs.Labels.{edge_in}
-use Rattle.rules.specs.Walk.{Walk, step_to}
+use mathlib.Core.Option.{none, some}
+use Rattle.rules.specs.Walk.{Walk}
 use Rattle.rules.specs.Entries.{End, goes_to, ending, end_of}
-use Rattle.laws.proofs.Walking.{Passes, passes_move, passes_end, passes_short}
+use Rattle.laws.proofs.Walking.{Passes, passes_start, passes_move, passes_end, passes_short}
+use Rattle.space.specs.declared.question.Question.{Question}
 use Rattle.walk.specs.Answers.{at}
-use Rattle.walk.specs.Least.{least}
-use Rattle.walk.proofs.Steps.{goes_nowhere, goes_there}
+use Rattle.walk.specs.Asked.{D, edge, goes, ends}
 
-module _ (n d : ℕ) (vectors : List ℤ) (table : List ℕ) (query : List ℤ) (threshold start : ℕ) where
-  abbrev D : ℕ → ℕ
-  D = away d vectors query
-
-  abbrev edge : ℕ → ℕ → Bool
-  edge = edge_in table n threshold
-
-  -- the walk comes by the id `last`, at D `distance`, after some moves; `key` is what the next step finds
-  pub record Way (last distance moves key : ℕ) : Type 0 where
-    pub passes : Passes n D edge start (at last moves)
-    pub far : distance ≡ D last
+module _ (q : Question) (start : ℕ) where
+  -- the walk comes by the id `last`, at D `distance`, after some moves
+  pub record Way (last distance moves : ℕ) : Type 0 where
+    pub passes : Passes q.set.n (D q) (edge q) start (at last moves)
+    pub far : distance ≡ D q last
     pub bounded : distance ≤ 4161600
-    pub next : key ≡ least (keyed D) (edge last) (distance * 128) n
 
-  module _ {last distance moves key : ℕ} (way : Way last distance moves key) (few : n ≤ 128) where
-    -- the next step moves: to an id of the set, with moves to spare
-    module _ (id : ℕ) (e : id ≡ key % 128) (nearer : key / 128 < distance) where
-      moves_to : step_to n D edge last ≡ some id
+  pub way_starts : (distance : ℕ) → start < q.set.n → distance ≡ D q start → distance ≤ 4161600 → Way start distance 0
+  way_starts distance l e b = record { passes = passes_start q.set.n (D q) (edge q) start l; far = e; bounded = b }
+
+  module _ {last distance moves : ℕ} (way : Way last distance moves) where
+    module _ {id : ℕ} (to : goes q last ≡ some id) where
+      -- to an id of the set, with moves to spare
+      pub way_moves : {far : ℕ} → far ≡ D q id → far < distance → Way id far (moves + 1)
       unfolding goes_to
-      moves_to = (goes_there n d vectors table query threshold last distance key few way.far way.next id e nearer).0
+      way_moves e l = record { passes = rw add-one (passes_move q.set.n (D q) (edge q) way.passes id to); far = e; bounded = omega (arith, way.bounded) }
 
-      pub way_passes : Passes n D edge start (at id (moves + 1))
-      way_passes = rw add-one (passes_move n D edge way.passes id moves_to)
-
-      pub way_spare : moves + 1 < n
-      way_spare = rw add-one (passes_short n D edge way.passes id moves_to)
-
-      pub way_far : key / 128 ≡ D id
-      way_far = sym (goes_there n d vectors table query threshold last distance key few way.far way.next id e nearer).1
-
-    -- it does not: this is the end
-    arrived : distance ≤ key / 128 → ending n d vectors table query threshold start ≡ at last moves
-    unfolding ending goes_to
-    arrived h =
-        passes_end n D edge way.passes
-        (goes_nowhere n d vectors table query threshold last distance key few way.far way.next h)
+      pub way_spare : moves + 1 < q.set.n
+      unfolding goes_to
+      way_spare = rw add-one (passes_short q.set.n (D q) (edge q) way.passes id to)
 
     abbrev end_at : ℕ → Walk → End
     end_at far w = record { last = w.current; distance = far; moves = w.moves }
 
-    pub way_ends : distance ≤ key / 128 → end_at distance (at last moves) ≡ end_of n d vectors table query threshold start
-    unfolding end_of
-    way_ends h = ap (λ (x : ℕ). end_at x (at last moves)) way.far ∙ ap (λ (w : Walk). end_at (D w.current) w) (sym (arrived h))
+    -- this is the end
+    pub way_ends : goes q last ≡ none → end_at distance (at last moves) ≡ ends q start
+    unfolding end_of ending goes_to
+    way_ends to =
+        ap (λ (x : ℕ). end_at x (at last moves)) way.far
+        ∙ ap (λ (w : Walk). end_at (D q w.current) w) (sym (passes_end q.set.n (D q) (edge q) way.passes to))

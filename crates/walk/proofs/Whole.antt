@@ -22,9 +22,11 @@ use Rattle.laws.proofs.Distances.{apart_symmetric, dist_self}
 use Rattle.laws.proofs.Refusals.{outcome-gives}
 use Rattle.laws.proofs.Walk.{step_cases, walk_stays, walk-moves, walk_ends, walk_arrives}
 use Rattle.laws.proofs.Walking.{Passes, passes_start, passes_move, passes_short}
-use Rattle.walk.specs.declared.End.{End}
-use Rattle.walk.specs.declared.Walked.{Walked}
-use Rattle.walk.specs.declared.Walked.TheVariants.{Refused, Ended}
+use Rattle.walk.specs.declared.answers.End.{End}
+use Rattle.std.specs.Prelude.{Result, Ok, Err}
+use Rattle.space.specs.declared.refusal.Refusal.{Refusal}
+use Rattle.space.specs.declared.refusal.Refusal.TheVariants.{Moves}
+use Rattle.space.specs.Told.{number}
 use Rattle.walk.specs.Answers.{at, end_in, told_end}
 use Rattle.laws.specs.Lent.{StartOk}
 use Rattle.walk.specs.Whole.{steps_on, BySteps, Arrived}
@@ -122,14 +124,14 @@ module _ (n d : ℕ) (vectors : List ℤ) (table : List ℕ) (query : List ℤ) 
   -- ---- where a walk that is not refused ends
 
   -- its answer is an end
-  ends : (r : Walked) → told_end r ≡ walk_answer n d vectors table query threshold start →
-      (e : End) × (r ≡ Ended e) × (end_in e ≡ end_of n d vectors table query threshold start)
+  ends : (r : Result End Refusal) → told_end r ≡ walk_answer n d vectors table query threshold start →
+      (e : End) × (r ≡ Ok e) × (end_in e ≡ end_of n d vectors table query threshold start)
   unfolding walk_answer
-  ends (Refused k) q = let is = q ∙ outcome-gives given (end_of n d vectors table query threshold start) in absurd (not-given k is)
+  ends (Err r) q = let is = q ∙ outcome-gives given (end_of n d vectors table query threshold start) in absurd (not-given (number r) is)
     where
       not-given : (k : ℕ) → refused k ≡ gives (end_of n d vectors table query threshold start) → ⊥
       not-given k q = let z : ◌≡◌ {A = ℕ} 0 1 = cc in omega arith
-  ends (Ended e) q =
+  ends (Ok e) q =
       let is = q ∙ outcome-gives given (end_of n d vectors table query threshold start) in
       let same : end_in e ≡ end_of n d vectors table query threshold start = cc in
       (e, refl, same)
@@ -147,8 +149,8 @@ module _ (n d : ℕ) (vectors : List ℤ) (table : List ℕ) (query : List ℤ) 
         short = rw count s.short;
       }
 
-  pub arrives : (r : Walked) → told_end r ≡ walk_answer n d vectors table query threshold start →
-      (e : End) × (r ≡ Ended e) × Arrived n d vectors table query threshold e
+  pub arrives : (r : Result End Refusal) → told_end r ≡ walk_answer n d vectors table query threshold start →
+      (e : End) × (r ≡ Ok e) × Arrived n d vectors table query threshold e
   arrives r q = let f = ends r q in (f.0, f.1, real_end f.0 f.2)
 
   -- D from a query that is the point v
@@ -169,13 +171,13 @@ module _ (n d : ℕ) (vectors : List ℤ) (table : List ℕ) (query : List ℤ) 
       ap (λ (x : Ending). x.distance) q ∙ found.nearest ∙ zero
 
   -- document 01: where the query is a point, and the table's edges close, the walk ends at D = 0
-  pub arrives_at-zero : Closing (apart d vectors) n (edge_in table n threshold) → (v : ℕ) → v < n → query ≡ coordinates d vectors v → (r : Walked) →
-      told_end r ≡ walk_answer n d vectors table query threshold start → (e : End) × (r ≡ Ended e) × (e.distance ≡ 0)
+  pub arrives_at-zero : Closing (apart d vectors) n (edge_in table n threshold) → (v : ℕ) → v < n → query ≡ coordinates d vectors v → (r : Result End Refusal) →
+      told_end r ≡ walk_answer n d vectors table query threshold start → (e : End) × (r ≡ Ok e) × (e.distance ≡ 0)
   arrives_at-zero closing v l is r q = let f = ends r q in (f.0, f.1, zero_end closing v l is f.0 f.2)
 
 -- the whole walk never answers 18
 pub never_eighteen : (n d : ℕ) (vectors : List ℤ) (table : List ℕ) (query : List ℤ) (threshold start : ℕ) →
-    told_end (Refused 18) ≡ walk_answer n d vectors table query threshold start → ⊥
+    told_end (Err Moves) ≡ walk_answer n d vectors table query threshold start → ⊥
 unfolding walk_answer outcome
 never_eighteen n d vectors table query threshold start q =
     let small = no_eighteen n d (length vectors) (length table) (length query) start threshold in

@@ -4,7 +4,7 @@ use Rattle.std.proofs.Math.Option.{none}
 use Rattle.rules.specs.Points.{away}
 use Rattle.rules.specs.Walk.{Walk as Record}
 use Rattle.rules.specs.Entries.{goes_to, step_refused, record_after, ending}
-use Rattle.walk.specs.declared.End.{End}
+use Rattle.walk.specs.declared.answers.End.{End}
 use Rattle.walk.specs.Answers.{at}
 
 module _ (n d : ℕ) (vectors : List ℤ) (table : List ℕ) (query : List ℤ) (threshold : ℕ) where

@@ -1,202 +1,113 @@
 // The greedy walk of document 01: one step of a record that the caller keeps, and the whole walk from a start to its end.
 #![tactic(auto)]
 
-ghost use Rattle.std.specs.Prelude.{◌≡◌, length};
-ghost use Rattle.rules.specs.Refusals.{walk_refusal};
-ghost use Rattle.rules.specs.Entries.{step_answer, record_after, walk_answer, end_of};
-ghost use Rattle.laws.specs.Lent.{StartOk};
-ghost use Rattle.walk.specs.Answers.{at, record_of, record_in, told, end_in, told_end};
+ghost use Rattle.std.specs.Prelude.{◌≡◌, ◌<◌, IfOk, OnOk};
+ghost use Rattle.rules.specs.Entries.{step_answer, record_after, walk_answer};
+ghost use Rattle.space.specs.Told.{number_in};
+ghost use Rattle.walk.specs.Answers.{record_of, record_in, told, end_in, told_end};
+ghost use Rattle.walk.specs.Asked.{question_of, refused_at, steps, leaves, ends};
 
-mod keys;
+mod answers;
+mod nearer;
 
-// The walk record: the caller keeps it, and each step changes it.
-#[derive(Clone, Copy)]
-pub struct Walk {
-    pub current: u16,
-    pub moves: u16,
-}
+pub use answers::{End, Step, Stepped, Walk};
+use nearer::nearer;
+use space::{Asked, Question, Refusal};
 
-#[derive(Clone, Copy)]
-pub enum Answer {
-    Refused(u8),
-    Moved,
-    AtEnd,
-}
-
-// A step's answer, and what the record holds after it.
-#[derive(Clone, Copy)]
-pub struct Stepped {
-    pub answer: Answer,
-    pub current: u16,
-    pub moves: u16,
-}
-
-// Where the whole walk ends: the last id, its D and the moves.
-#[derive(Clone, Copy)]
-pub struct End {
-    pub last: u16,
-    pub distance: u32,
-    pub moves: u16,
-}
-
-#[derive(Clone, Copy)]
-pub enum Walked {
-    Refused(u8),
-    Ended(End),
-}
-
-// Refusals 1 to 6, then 9; 0 for none.
-fn walk_refusal(
-    n: usize,
-    d: usize,
-    vectors: &[i8],
-    table: &[u16],
-    query: &[i8],
-    id: u16,
-    threshold: u16,
-) -> u8
-    ensures { result ≡ walk_refusal n d (length vectors.now) (length table.now) (length query.now) id threshold }
+// Refusals 1 to 6, then 9; where there is none, the question as one that is not refused.
+fn check<'a>(question: &Question<'a>, id: u16) -> Result<Asked<'a>, Refusal>
+    ensures refusal { number_in result ≡ refused_at question.now id }
+    ensures same { IfOk result (λ asked. question_of asked ≡ question.now) }
+    ensures start { OnOk result (id < question.now.set.n) }
 {
-    let started = space::start_refusal(n, d, vectors.len(), table.len(), query.len(), id as usize);
-    if started != 0 {
-        return started;
+    let asked = question.check(usize::from(id))?;
+    if 32767 < question.threshold {
+        return Err(Refusal::Threshold);
     }
-    if 32767 < threshold {
-        return 9;
-    }
-    0
-}
-
-// An answer that leaves the record as it was.
-fn stays(answer: Answer, current: u16, moves: u16) -> Stepped
-    ensures { (result.answer ≡ answer) × (record_in result ≡ at current moves) }
-{
-    Stepped {
-        answer,
-        current,
-        moves,
-    }
+    Ok(asked)
 }
 
 // A step of a walk that is not refused: it may yet be one move too many.
-fn unrefused_step(
-    n: usize,
-    d: usize,
-    vectors: &[i8],
-    table: &[u16],
-    query: &[i8],
-    threshold: u16,
-    current: u16,
-    moves: u16,
-) -> Stepped
-    requires { walk_refusal n d (length vectors.now) (length table.now) (length query.now) current threshold ≡ 0 }
-    ensures { (told result.answer ≡ step_answer n d vectors.now table.now query.now threshold (at current moves))
-        × (record_in result ≡ record_after n d vectors.now table.now query.now threshold (at current moves)) }
+fn unrefused_step(asked: &Asked, walk: Walk) -> Stepped
+    requires { refused_at (question_of asked.now) walk.current ≡ 0 }
+    ensures answer { told result.answer ≡ steps (question_of asked.now) (record_of walk) }
+    ensures walk_after { record_in result ≡ leaves (question_of asked.now) (record_of walk) }
 {
-    let distance = keys::from_query(n, d, vectors, query, current as usize);
-    let key = keys::next_key(n, d, vectors, table, query, threshold, current, distance);
-    if distance <= key / 128 {
-        return stays(Answer::AtEnd, current, moves);
+    let distance = asked.away(usize::from(walk.current));
+    let Some(near) = nearer(asked, walk.current, distance) else {
+        return Stepped {
+            answer: Ok(Step::AtEnd),
+            walk,
+        };
+    };
+    if 127 <= walk.moves {
+        return Stepped {
+            answer: Err(Refusal::Moves),
+            walk,
+        };
     }
-    if 127 <= moves {
-        return stays(Answer::Refused(18), current, moves);
-    }
-    let next = keys::id_of(key);
-    let count = moves + 1;
     Stepped {
-        answer: Answer::Moved,
-        current: next,
-        moves: count,
+        answer: Ok(Step::Moved),
+        walk: Walk {
+            current: near.id,
+            moves: walk.moves + 1,
+        },
     }
 }
 
-// One step from a current id, after a number of moves: the answer, and what the record holds then.
-pub fn step_at(
-    n: usize,
-    d: usize,
-    vectors: &[i8],
-    table: &[u16],
-    query: &[i8],
-    threshold: u16,
-    current: u16,
-    moves: u16,
-) -> Stepped
-    ensures { (told result.answer ≡ step_answer n d vectors.now table.now query.now threshold (at current moves))
-        × (record_in result ≡ record_after n d vectors.now table.now query.now threshold (at current moves)) }
+// One step from a record as it stands: the answer, and what the record holds then.
+pub fn step_at(question: &Question<'_>, walk: Walk) -> Stepped
+    ensures answer { let q = question.now in
+        told result.answer ≡ step_answer q.set.n q.set.d q.set.vectors.now q.table.now q.query.now q.threshold (record_of walk) }
+    ensures walk_after { let q = question.now in
+        record_in result ≡ record_after q.set.n q.set.d q.set.vectors.now q.table.now q.query.now q.threshold (record_of walk) }
 {
-    let refusal = walk_refusal(n, d, vectors, table, query, current, threshold);
-    if refusal != 0 {
-        return stays(Answer::Refused(refusal), current, moves);
+    match check(question, walk.current) {
+        Ok(unrefused) => unrefused_step(&unrefused, walk),
+        Err(refusal) => Stepped {
+            answer: Err(refusal),
+            walk,
+        },
     }
-    unrefused_step(n, d, vectors, table, query, threshold, current, moves)
-}
-
-// The walk from a start of a set that is not refused: each move is to a smaller D.
-fn walk_on(
-    n: usize,
-    d: usize,
-    vectors: &[i8],
-    table: &[u16],
-    query: &[i8],
-    threshold: u16,
-    start: u16,
-) -> End
-    requires { StartOk n d (length vectors.now) (length table.now) (length query.now) start }
-    ensures { end_in result ≡ end_of n d vectors.now table.now query.now threshold start }
-{
-    let mut last = start;
-    let mut distance = keys::from_query(n, d, vectors, query, start as usize);
-    let mut moves: u16 = 0;
-    let mut key = keys::next_key(n, d, vectors, table, query, threshold, last, distance);
-    while key / 128 < distance {
-        last = keys::id_of(key);
-        distance = key / 128;
-        moves += 1;
-        key = keys::next_key(n, d, vectors, table, query, threshold, last, distance);
-    }
-    End {
-        last,
-        distance,
-        moves,
-    }
-}
-
-// The whole walk: from a start with 0 moves, steps to the end.
-pub fn whole_walk(
-    n: usize,
-    d: usize,
-    vectors: &[i8],
-    table: &[u16],
-    query: &[i8],
-    start: u16,
-    threshold: u16,
-) -> Walked
-    ensures { told_end result ≡ walk_answer n d vectors.now table.now query.now threshold start }
-{
-    let refusal = walk_refusal(n, d, vectors, table, query, start, threshold);
-    if refusal != 0 {
-        return Walked::Refused(refusal);
-    }
-    Walked::Ended(walk_on(n, d, vectors, table, query, threshold, start))
 }
 
 // One step of the record that the caller keeps.
-pub fn step(
-    walk: &mut Walk,
-    n: usize,
-    d: usize,
-    vectors: &[i8],
-    table: &[u16],
-    query: &[i8],
-    threshold: u16,
-) -> Answer
-    ensures { (told result ≡ step_answer n d vectors.now table.now query.now threshold (record_of walk.old))
-        × (record_of walk.new ≡ record_after n d vectors.now table.now query.now threshold (record_of walk.old)) }
+pub fn step(walk: &mut Walk, question: &Question<'_>) -> Result<Step, Refusal>
+    ensures answer { let q = question.now in
+        told result ≡ step_answer q.set.n q.set.d q.set.vectors.now q.table.now q.query.now q.threshold (record_of walk.old) }
+    ensures walk_after { let q = question.now in
+        record_of walk.new ≡ record_after q.set.n q.set.d q.set.vectors.now q.table.now q.query.now q.threshold (record_of walk.old) }
 {
-    let current = walk.current;
-    let moves = walk.moves;
-    let out = step_at(n, d, vectors, table, query, threshold, current, moves);
-    walk.current = out.current;
-    walk.moves = out.moves;
-    out.answer
+    let stepped = step_at(question, *walk);
+    *walk = stepped.walk;
+    stepped.answer
+}
+
+// The walk from a start of a set that is not refused: each move is to a smaller D.
+fn walk_on(asked: &Asked, start: u16) -> End
+    requires { start < asked.now.points.set.n }
+    ensures { end_in result ≡ ends (question_of asked.now) start }
+{
+    let mut end = End {
+        last: start,
+        distance: asked.away(usize::from(start)),
+        moves: 0,
+    };
+    while let Some(near) = nearer(asked, end.last, end.distance) {
+        end = End {
+            last: near.id,
+            distance: near.distance,
+            moves: end.moves + 1,
+        };
+    }
+    end
+}
+
+// The whole walk: from a start with 0 moves, steps to the end.
+pub fn whole_walk(question: &Question<'_>, start: u16) -> Result<End, Refusal>
+    ensures { let q = question.now in
+        told_end result ≡ walk_answer q.set.n q.set.d q.set.vectors.now q.table.now q.query.now q.threshold start }
+{
+    let asked = check(question, start)?;
+    Ok(walk_on(&asked, start))
 }

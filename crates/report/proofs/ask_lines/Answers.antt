@@ -7,24 +7,24 @@ use Rattle.report.proofs.ask_lines.Goals as goal
 
 pub found_lines-requires : goal.found_lines-requires
 found_lines-requires c =
-    let e = c.search-searched.ensures in
-    let x = answered 0 _ _ _ _ _ _ _ _ _ _ (ap told (sym c.in-Done.is) ∙ e.answer) e.ids e.distances e.trail refl refl refl in
+    let e = c.search.ensures in
+    let x = answered 0 _ _ _ _ _ _ _ _ _ _ (ap told (sym c.in-Ok.is) ∙ e.answer) e.ids e.distances e.trail refl refl refl in
     (x.ids_room, x.distances_room, x.trail_room)
 
-pub returns-in-Refused : goal.returns-in-Refused
-returns-in-Refused c =
-    let told_is = ap told (sym c.in-Refused.is) ∙ c.search-searched.ensures.answer in
-    let same = refused_lines _ _ _ _ _ _ _ _ told_is refl refl refl c.wide.ensures c.wide8.ensures in
-    let both = placed_as _ _ _ _ same (c.ask_refused_line.ensures.answer, c.ask_refused_line.ensures.output) in record {
+pub returns-in-Ok : goal.returns-in-Ok
+returns-in-Ok c =
+    let e = c.search.ensures in
+    let x = answered _ _ _ _ _ _ _ _ _ _ _ (ap told (sym c.in-Ok.is) ∙ e.answer) e.ids e.distances e.trail refl refl refl in
+    let both = placed_as _ _ _ _ (answered_lines _ _ _ c.from-ask_number.ensures x) (c.found_lines.ensures.answer, c.found_lines.ensures.output) in record {
       answer = both.0;
       output = both.1;
     }
 
-pub returns-in-Done : goal.returns-in-Done
-returns-in-Done c =
-    let e = c.search-searched.ensures in
-    let x = answered _ _ _ _ _ _ _ _ _ _ _ (ap told (sym c.in-Done.is) ∙ e.answer) e.ids e.distances e.trail refl refl refl in
-    let both = placed_as _ _ _ _ (answered_lines _ _ _ c.wide-in-Done.ensures x) (c.found_lines.ensures.answer, c.found_lines.ensures.output) in record {
+pub returns-in-Err : goal.returns-in-Err
+returns-in-Err c =
+    let told_is = ap told (sym c.in-Err.is) ∙ c.search.ensures.answer in
+    let same = refused_lines _ _ _ _ _ _ _ _ told_is refl refl refl c.from-ask_number.ensures (c.from-in-Err.ensures ∙ c.from.ensures) in
+    let both = placed_as _ _ _ _ same (c.ask_refused_line.ensures.answer, c.ask_refused_line.ensures.output) in record {
       answer = both.0;
       output = both.1;
     }

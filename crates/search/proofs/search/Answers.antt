@@ -1,65 +1,53 @@
 -- `search::search` meets its contract. Assumes nothing.
-use mathlib.Core.Path.{refl, sym, ◌∙◌}
+use Prim.Native.Nat.{min}
+use mathlib.Core.Path.{◌≡◌, ap, ap₂, ◌∙◌}
 use native.Mathlib.Omega.{arith}
-use Rattle.search.proofs.Starting.{zeros-at, nothing_seen, started}
-use Rattle.search.proofs.Listing.{rest-start}
-use Rattle.search.proofs.Finish.{search_ok, explored_room, refusing, giving}
+use lib.ListN.{length}
+use Rattle.std.proofs.lemmas.Result.{err_from_is_err_and}
+use Rattle.space.proofs.Told.{number-some}
+use lib.ListN.{replicate}
+use Rattle.search.specs.declared.see.Mark.TheVariants.{Unseen}
+use Rattle.search.specs.Answer.{asked}
+use Rattle.search.specs.Rest.{reached}
+use Rattle.search.proofs.Starting.{started}
+use Rattle.search.proofs.Seeing.{few}
+use Rattle.search.proofs.Finish.{refusing-first, refusing-next, explored_as, giving}
 use Rattle.search.proofs.search.Goals as goal
 
-pub returns-then-refusal-ne0 : goal.returns-then-refusal-ne0
-returns-then-refusal-ne0 c =
-    let x = refusing _ _ _ _ _ _ _ _ _ _ _ _ _ c.search_refusal-refusal.ensures c.if-refusal-ne0.true in
-    record {
-      answer = x.number;
-      ids = x.ids_stay;
-      distances = x.distances_stay;
-      trail = x.trail_stays;
-    }
+pub returns-in_err-question : goal.returns-in_err-question
+returns-in_err-question c =
+    let p = err_from_is_err_and c.from_residual.result c.from_residual.ensures.1 in
+    let x = refusing-first (asked c.args.ask.now) _ _ _ _ (rw c.from.ensures at c.in_err-question.ensures.refusal) (number-some _) in
+    record { answer = rw (p.1, p.2) x.number; ids = x.ids_stay; distances = x.distances_stay; trail = x.trail_stays }
 
-pub list_all-requires : goal.list_all-requires
-list_all-requires c =
-    let ok = search_ok _ _ _ _ _ _ _ _ _ _ _ _ (sym c.search_refusal-refusal.ensures ∙ c.if-refusal-ne0.false) in
-    (ok.starts.asked.few-points, refl)
+pub returns-in_err-rest_refusal : goal.returns-in_err-rest_refusal
+returns-in_err-rest_refusal c =
+    let p = err_from_is_err_and c.from_residual-in_err-rest_refusal.result c.from_residual-in_err-rest_refusal.ensures.1 in
+    let x = refusing-next (asked c.args.ask.now) _ _ _ _ (rw c.from.ensures at c.in_ok-question.ensures.refusal) c.in_err-rest_refusal.ensures (number-some _) in
+    record { answer = rw (p.1, p.2) x.number; ids = x.ids_stay; distances = x.distances_stay; trail = x.trail_stays }
 
-pub see-first-requires : goal.see-first-requires
-see-first-requires c =
-    let ok = search_ok _ _ _ _ _ _ _ _ _ _ _ _ (sym c.search_refusal-refusal.ensures ∙ c.if-refusal-ne0.false) in
-    let start = c.args.start in record {
-      given = ok.starts.asked;
-      lined = nothing_seen _ _ _ _ refl refl (zeros-at 128);
-      fresh = (ok.starts.start_in, zeros-at 128 start);
-    }
+pub overflow_cast-ask : goal.overflow_cast-ask
+overflow_cast-ask c =
+    let small = rw c.in_ok-question.ensures.set at (few c.in_ok-question.question) in
+    record { fits = omega (arith, small, c.from.ensures, c.in_ok-question.ensures.start) }
 
-pub explore-ways-requires : goal.explore-ways-requires
-explore-ways-requires c =
-    let ok = search_ok _ _ _ _ _ _ _ _ _ _ _ _ (sym c.search_refusal-refusal.ensures ∙ c.if-refusal-ne0.false) in
-    let first = started _ _ ok.starts.start_in ok.starts.asked.few-points _ c.see-first.ensures.0 in
-    let listed = rest-start c.list_all.ensures ok.starts.asked.few-points in record {
-      given = ok.starts.asked;
-      lined = c.see-first.ensures.1;
-      rest = rw c.see-first.ensures.2 (listed _);
-      fresh = first.fresh;
-      table = (ok.starts.table_is, ok.trail_room);
-    }
-
-pub answer-requires : goal.answer-requires
-answer-requires c =
-    let f = c.smaller-found.ensures in
-    let ok = search_ok _ _ _ _ _ _ _ _ _ _ _ _ (sym c.search_refusal-refusal.ensures ∙ c.if-refusal-ne0.false) in
-    (omega (arith, explored_room ok.starts.asked.few-points c.explore-ways.ensures), omega arith, omega arith)
+pub explore-walked-requires-clause-fresh : goal.explore-walked-requires-clause-fresh
+explore-walked-requires-clause-fresh c =
+    let first : c.see.new.self.marks ≡ reached c.args.ask.now.start (replicate 128 Unseen) =
+    c.see.ensures.marks ∙ ap (reached c.args.ask.now.start) c.new-front.ensures.marks in
+    (started _ _ (rw c.from.ensures at c.in_ok-question.ensures.start) (rw c.in_ok-question.ensures.set at (few c.in_ok-question.question)) _ first).fresh
 
 pub returns : goal.returns
 returns c =
-    let taken = sym c.search_refusal-refusal.ensures ∙ c.if-refusal-ne0.false in
-    let ok = search_ok _ _ _ _ _ _ _ _ _ _ _ _ taken in
-    let see = c.see-first in
-    let first = started _ _ ok.starts.start_in ok.starts.asked.few-points _ see.ensures.0 in
-    let x =
-    giving _ _ _ _ _ _ _ _ _ _ _ _ _ _ _ _ _ _ _ _ taken first.only c.explore-ways.ensures
-    c.smaller-found.ensures c.answer.ensures.ids c.answer.ensures.distances in
-    record {
-      answer = x.counts;
-      ids = x.ids_hold;
-      distances = x.distances_hold;
-      trail = x.trail-holds;
-    }
+    let ask = c.args.ask.now in
+    let first : c.see.new.self.marks ≡ reached ask.start (replicate 128 Unseen) =
+    c.see.ensures.marks ∙ ap (reached ask.start) c.new-front.ensures.marks in
+    let only = (started _ _ (rw c.from.ensures at c.in_ok-question.ensures.start) (rw c.in_ok-question.ensures.set at (few c.in_ok-question.question)) _ first).only in
+    let of = c.in_ok-question.ensures in
+    let explored = explored_as c.in_ok-question.question ask.question of.set of.table of.query of.threshold
+    (rw (c.see.ensures.asked, c.new-front.ensures.asked, c.from-2.ensures) at c.explore-walked.ensures) in
+    let line = c.explore-walked.new.self.line.items in
+    let found : c.min-found.result ≡ min ask.k (length line) = c.min-found.ensures ∙ ap₂ min c.from-3.ensures c.len-seen.ensures.value in
+    let x = giving (asked ask) _ _ _ (rw c.from.ensures at of.refusal) c.in_ok-rest_refusal.ensures only explored found
+    (rw c.deref.ensures.0 at c.answer.ensures.ids) (rw c.deref.ensures.0 at c.answer.ensures.distances) in
+    record { answer = rw c.len-seen.ensures.value x.counts; ids = x.ids_hold; distances = x.distances_hold; trail = x.trail-holds }

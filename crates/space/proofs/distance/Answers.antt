@@ -13,24 +13,24 @@ loop-i-preserved c =
     let l = c.loop-i in
     (l.invariant.0, omega arith, pairs_more l.invariant.2 c.thirty_two-sum.ensures)
 
-pub loop-i-2-init : goal.loop-i-2-init
-loop-i-2-init c =
+pub loop-last-init : goal.loop-last-init
+loop-last-init c =
     let l = c.loop-i in
     elim c.if-n-i-ge16.branch [
       | then-n-i-ge16 w ↦ (l.invariant.0, omega arith, pairs_is (pairs_more l.invariant.2 w.sixteen-sum.ensures) w.i-is w.sum-is)
       | else-n-i-ge16 w ↦ (l.invariant.0, omega arith, pairs_is l.invariant.2 w.i-is w.sum-is)
     ]
 
-pub loop-i-2-preserved : goal.loop-i-2-preserved
-loop-i-2-preserved c =
-    let l = c.loop-i-2 in
-    (l.invariant.0, omega arith, pairs_more l.invariant.2 c.plain-sum.ensures)
+pub loop-last-preserved : goal.loop-last-preserved
+loop-last-preserved c =
+    let l = c.loop-last in
+    (l.invariant.0, omega arith, pairs_more l.invariant.2 c.pair-sum.ensures)
 
 pub returns : goal.returns
 returns c =
-    let l = c.loop-i-2 in
+    let l = c.loop-last in
     let s = c.args in
     record {
-      value = l.invariant.2.is ∙ dist_cut l.i 64 s.a.now s.b.now (omega arith) (λ p q. omega arith);
+      value = l.invariant.2.is ∙ dist_cut l.last 64 s.a.now s.b.now (omega arith) (λ p q. omega arith);
       bounded = omega arith;
     }

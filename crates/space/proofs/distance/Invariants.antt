@@ -12,9 +12,6 @@ invariant-loop-i l =
 abbrev pub decreases-loop-i : goal.decreases-loop-i
 decreases-loop-i l = l.n - l.i
 
-abbrev pub invariant-loop-i-2 : goal.invariant-loop-i-2
-invariant-loop-i-2 l =
-    (l.n ≡ min (min (length l.a) (length l.b)) 64) × (l.i ≤ l.n) × Pairs l.a l.b 0 l.i l.sum
-
-abbrev pub decreases-loop-i-2 : goal.decreases-loop-i-2
-decreases-loop-i-2 l = l.n - l.i
+abbrev pub invariant-loop-last : goal.invariant-loop-last
+invariant-loop-last l =
+    (l.n ≡ min (min (length l.a) (length l.b)) 64) × (l.last ≤ l.n) × Pairs l.a l.b 0 l.last l.sum

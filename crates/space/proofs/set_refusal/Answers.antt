@@ -30,10 +30,10 @@ overflow_mul-n c =
     let m = inside 1 64 a.d (coordinates-ok c) in
     record { fits = omega (arith, small_product a.n a.d l.1 m.1) }
 
-pub returns-then-len-n : goal.returns-then-len-n
+pub returns-then-vectors-n : goal.returns-then-vectors-n
 unfolding set_refusal
-returns-then-len-n c = simp (points-ok c.before, coordinates-ok c.before, ne_eqb _ _ c.if-len-n.true)
+returns-then-vectors-n c = simp (points-ok c.before, coordinates-ok c.before, ne_eqb _ _ c.if-vectors-n.true)
 
 pub returns : goal.returns
 unfolding set_refusal
-returns c = simp (points-ok c.before, coordinates-ok c.before, eq-eqb _ _ c.if-len-n.false)
+returns c = simp (points-ok c.before, coordinates-ok c.before, eq-eqb _ _ c.if-vectors-n.false)

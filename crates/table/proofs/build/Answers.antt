@@ -1,24 +1,18 @@
--- `table::build` meets its contract: where it refuses nothing is changed. Assumes nothing.
+-- Where it refuses nothing is changed.
 use mathlib.Core.Path.{sym, ◌∙◌}
+use Rattle.laws.proofs.Refusals.{after_old}
 use Rattle.rules.specs.Entries.{table_after}
-use Rattle.laws.proofs.Refusals.{after_new, after_old}
+use Rattle.space.proofs.Told.{number-some}
+use Rattle.table.proofs.Whole.{built}
 use Rattle.table.proofs.build.Goals as goal
 
-pub returns-then-refusal-eq0 : goal.returns-then-refusal-eq0
+pub returns-in_err-points-clause-written : goal.returns-in_err-points-clause-written
 unfolding table_after
-returns-then-refusal-eq0 c =
-    let r = c.build_refusal-refusal in
-    let none = c.if-refusal-eq0.true in
-    record {
-      value = r.ensures;
-      written = c.write.ensures ∙ sym (after_new (sym r.ensures ∙ none) _ _);
-    }
+returns-in_err-points-clause-written c =
+    sym (after_old (λ e. number-some _ (c.in_err-points.ensures.refusal ∙ e)) _ _)
 
-pub returns-else-refusal-eq0 : goal.returns-else-refusal-eq0
-unfolding table_after
-returns-else-refusal-eq0 c =
-    let r = c.build_refusal-refusal in
-    record {
-      value = r.ensures;
-      written = sym (after_old (λ e. c.if-refusal-eq0.false (r.ensures ∙ e)) _ _);
-    }
+pub returns-clause-written : goal.returns-clause-written
+returns-clause-written c =
+    let e = c.in_ok-points.ensures in
+    let filled = rw e.same at c.of.ensures.filled in
+    c.write_rows.ensures ∙ rw (c.of.ensures.same_n, e.same) (built _ _ _ filled e.refusal)

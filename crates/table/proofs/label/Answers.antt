@@ -1,9 +1,5 @@
-use native.Mathlib.Omega.{arith}
-use Rattle.table.proofs.Halving.{halved_start, halved_turn, label_halved}
+use Rattle.table.proofs.Halving.{halved_turn, label_halved}
 use Rattle.table.proofs.label.Goals as goal
-
-pub loop-width-init : goal.loop-width-init
-loop-width-init c = (omega arith, omega arith, halved_start)
 
 pub loop-width-preserved : goal.loop-width-preserved
 loop-width-preserved c =

@@ -1,10 +1,10 @@
--- `walk::walk_on` meets its contract. The loop keeps that the walk is on its way; the measure is D. Assumes nothing.
+-- The loop keeps that the walk is on its way; the measure is D.
+use Rattle.walk.specs.Asked.{question_of}
 use Rattle.walk.proofs.Way.{Way}
 use Rattle.walk.proofs.walk_on.Given as goal
 
-abbrev pub invariant-loop-key : goal.invariant-loop-key
-invariant-loop-key l =
-    Way l.n l.d l.vectors l.table l.query l.threshold l.start l.last l.distance l.moves l.key
+abbrev pub invariant-loop-near : goal.invariant-loop-near
+invariant-loop-near l = Way (question_of l.asked) l.start l.end.last l.end.distance l.end.moves
 
-abbrev pub decreases-loop-key : goal.decreases-loop-key
-decreases-loop-key l = l.distance
+abbrev pub decreases-loop-near : goal.decreases-loop-near
+decreases-loop-near l = l.end.distance

@@ -1,18 +1,22 @@
--- `walk::whole_walk` meets its contract: it is refused, or it is the walk to its end. Assumes nothing.
+-- It is refused, or it is the walk to its end.
 use mathlib.Core.Path.{sym, ap, ◌∙◌}
 use Rattle.rules.specs.Outcome.{gives}
 use Rattle.rules.specs.Entries.{walk_answer}
 use Rattle.laws.proofs.Refusals.{outcome-gives, outcome-refused}
-use Rattle.walk.proofs.Taken.{taken}
+use Rattle.std.proofs.lemmas.Result.{err_from_is_err_and}
+use Rattle.space.specs.declared.question.Question.{Question}
+use Rattle.space.proofs.Told.{number-some}
+use Rattle.walk.specs.Asked.{ends}
 use Rattle.walk.proofs.whole_walk.Goals as goal
 
-pub returns-then-refusal-ne0 : goal.returns-then-refusal-ne0
+pub returns-in_err-asked : goal.returns-in_err-asked
 unfolding walk_answer
-returns-then-refusal-ne0 c = rw (sym c.walk_refusal-refusal.ensures) (sym (outcome-refused c.if-refusal-ne0.true _))
-
-pub walk_on-requires : goal.walk_on-requires
-walk_on-requires c = taken _ _ _ _ _ _ _ (sym c.walk_refusal-refusal.ensures ∙ c.if-refusal-ne0.false)
+returns-in_err-asked c =
+    let p = err_from_is_err_and c.from_residual.result c.from_residual.ensures.1 in
+    rw (p.1, p.2) (rw c.in_err-asked.ensures.refusal (sym (outcome-refused (λ z. number-some _ (c.in_err-asked.ensures.refusal ∙ z)) _)))
 
 pub returns : goal.returns
 unfolding walk_answer
-returns c = ap gives c.walk_on.ensures ∙ sym (outcome-gives (sym c.walk_refusal-refusal.ensures ∙ c.if-refusal-ne0.false) _)
+returns c =
+    let e = c.in_ok-asked.ensures in
+    ap gives (c.walk_on.ensures ∙ ap (λ (q : Question). ends q c.args.start) e.same) ∙ sym (outcome-gives (sym e.refusal) _)

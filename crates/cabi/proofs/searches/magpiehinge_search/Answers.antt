@@ -4,16 +4,16 @@ use Rattle.search.specs.Answer.{told}
 use Rattle.cabi.proofs.Cells.{number, cell}
 use Rattle.cabi.proofs.searches.magpiehinge_search.Goals as goal
 
-pub returns-in-Refused : goal.returns-in-Refused
-returns-in-Refused c =
-    let e = c.search-answer.ensures in
+pub returns-in-Err : goal.returns-in-Err
+returns-in-Err c =
+    let e = c.search.ensures in
     let s = c.args in
-    let o = ap told (sym c.in-Refused.is) ∙ e.answer in
+    let o = ap told (sym c.in-Err.is) ∙ e.answer in
     let found = cell (λ x. x.found) s.found.now o in
     let seen = cell (λ x. x.seen) s.seen.now o in
     let walked = cell (λ x. x.walked) s.walked.now o in
     record {
-      refusal = number o;
+      refusal = c.from.ensures ∙ number o;
       ids = e.ids;
       distances = e.distances;
       trail = e.trail;
@@ -22,11 +22,11 @@ returns-in-Refused c =
       walked = walked;
     }
 
-pub returns-in-Done : goal.returns-in-Done
-returns-in-Done c =
-    let e = c.search-answer.ensures in
+pub returns-in-Ok : goal.returns-in-Ok
+returns-in-Ok c =
+    let e = c.search.ensures in
     let s = c.args in
-    let o = ap told (sym c.in-Done.is) ∙ e.answer in
+    let o = ap told (sym c.in-Ok.is) ∙ e.answer in
     let found = cell (λ x. x.found) s.found.now o in
     let seen = cell (λ x. x.seen) s.seen.now o in
     let walked = cell (λ x. x.walked) s.walked.now o in

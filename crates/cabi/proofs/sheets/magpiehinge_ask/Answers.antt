@@ -4,36 +4,36 @@ use Rattle.sheet.specs.Answers.{ask_told}
 use Rattle.cabi.proofs.Cells.{number, cell}
 use Rattle.cabi.proofs.sheets.magpiehinge_ask.Goals as goal
 
-pub returns-in-Refused : goal.returns-in-Refused
-returns-in-Refused c =
-    let e = c.ask-answer.ensures in
+pub returns-in-Err : goal.returns-in-Err
+returns-in-Err c =
+    let e = c.ask.ensures in
     let s = c.args in
-    let o = ap ask_told (sym c.in-Refused.is) ∙ e.0 in
+    let o = ap ask_told (sym c.in-Err.is) ∙ e.value in
     let start = cell (λ x. x.start) s.start.now o in
     let width = cell (λ x. x.width) s.width.now o in
     let most = cell (λ x. x.k) s.k.now o in
     let threshold = cell (λ x. x.threshold) s.threshold.now o in
     record {
-      refusal = number o;
-      query = e.1;
+      refusal = c.from.ensures ∙ number o;
+      query = e.query;
       start = start;
       width = width;
       k = most;
       threshold = threshold;
     }
 
-pub returns-in-Numbers : goal.returns-in-Numbers
-returns-in-Numbers c =
-    let e = c.ask-answer.ensures in
+pub returns-in-Ok : goal.returns-in-Ok
+returns-in-Ok c =
+    let e = c.ask.ensures in
     let s = c.args in
-    let o = ap ask_told (sym c.in-Numbers.is) ∙ e.0 in
+    let o = ap ask_told (sym c.in-Ok.is) ∙ e.value in
     let start = cell (λ x. x.start) s.start.now o in
     let width = cell (λ x. x.width) s.width.now o in
     let most = cell (λ x. x.k) s.k.now o in
     let threshold = cell (λ x. x.threshold) s.threshold.now o in
     record {
       refusal = number o;
-      query = e.1;
+      query = e.query;
       start = start;
       width = width;
       k = most;

@@ -4,24 +4,24 @@ use Rattle.sheet.specs.Answers.{write_told}
 use Rattle.cabi.proofs.Cells.{number, cell}
 use Rattle.cabi.proofs.sheets.magpiehinge_write.Goals as goal
 
-pub returns-in-Refused : goal.returns-in-Refused
-returns-in-Refused c =
-    let e = c.write-answer.ensures in
+pub returns-in-Err : goal.returns-in-Err
+returns-in-Err c =
+    let e = c.write.ensures in
     let s = c.args in
-    let o = ap write_told (sym c.in-Refused.is) ∙ e.0 in
+    let o = ap write_told (sym c.in-Err.is) ∙ e.value in
     record {
-      refusal = number o;
-      output = e.1;
+      refusal = c.from.ensures ∙ number o;
+      output = e.output;
       written = cell (λ x. x) s.written.now o;
     }
 
-pub returns-in-Length : goal.returns-in-Length
-returns-in-Length c =
-    let e = c.write-answer.ensures in
+pub returns-in-Ok : goal.returns-in-Ok
+returns-in-Ok c =
+    let e = c.write.ensures in
     let s = c.args in
-    let o = ap write_told (sym c.in-Length.is) ∙ e.0 in
+    let o = ap write_told (sym c.in-Ok.is) ∙ e.value in
     record {
       refusal = number o;
-      output = e.1;
+      output = e.output;
       written = cell (λ x. x) s.written.now o;
     }

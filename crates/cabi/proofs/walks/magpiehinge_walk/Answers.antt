@@ -4,26 +4,26 @@ use Rattle.walk.specs.Answers.{told_end}
 use Rattle.cabi.proofs.Cells.{number, cell}
 use Rattle.cabi.proofs.walks.magpiehinge_walk.Goals as goal
 
-pub returns-in-Refused : goal.returns-in-Refused
-returns-in-Refused c =
-    let e = c.whole_walk-answer.ensures in
+pub returns-in-Err : goal.returns-in-Err
+returns-in-Err c =
+    let e = c.whole_walk.ensures in
     let s = c.args in
-    let o = ap told_end (sym c.in-Refused.is) ∙ e in
+    let o = ap told_end (sym c.in-Err.is) ∙ e in
     let last = cell (λ x. x.last) s.last.now o in
     let distance = cell (λ x. x.distance) s.distance.now o in
     let moves = cell (λ x. x.moves) s.moves.now o in
     record {
-      refusal = number o;
+      refusal = c.from.ensures ∙ number o;
       last = last;
       distance = distance;
       moves = moves;
     }
 
-pub returns-in-Ended : goal.returns-in-Ended
-returns-in-Ended c =
-    let e = c.whole_walk-answer.ensures in
+pub returns-in-Ok : goal.returns-in-Ok
+returns-in-Ok c =
+    let e = c.whole_walk.ensures in
     let s = c.args in
-    let o = ap told_end (sym c.in-Ended.is) ∙ e in
+    let o = ap told_end (sym c.in-Ok.is) ∙ e in
     let last = cell (λ x. x.last) s.last.now o in
     let distance = cell (λ x. x.distance) s.distance.now o in
     let moves = cell (λ x. x.moves) s.moves.now o in

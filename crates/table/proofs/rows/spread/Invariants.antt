@@ -1,5 +1,5 @@
--- `table::rows::spread` meets its contract: the least distances passed are those with v. Assumes nothing.
-use Prim.Native.Nat.{ℕ, ◌-◌, ◌≤◌}
+-- The least distances passed are those with v. Assumes nothing.
+use Prim.Native.Nat.{ℕ}
 use mathlib.Core.List.{List}
 use Rattle.table.specs.Kept.{far}
 use Rattle.table.specs.Rows.{led}
@@ -11,8 +11,4 @@ abbrev by : List ℕ → ℕ → ℕ → ℕ → ℕ → ℕ
 by b u v x least = led (far b u v) (far b u x) (far b v x) least
 
 abbrev pub invariant-loop-x : goal.invariant-loop-x
-invariant-loop-x l =
-    (l.x ≤ 128) × Mapped (by l.between l.u l.v) l.x l.initial.lead l.lead
-
-abbrev pub decreases-loop-x : goal.decreases-loop-x
-decreases-loop-x l = 128 - l.x
+invariant-loop-x l = Mapped (by l.distances.cells l.u l.v) l.x l.initial.lead l.lead

@@ -1,0 +1,16 @@
+-- `lines::line::AskRefused::put` meets its contract. Assumes nothing.
+use Rattle.rules.specs.Lines.{ask_refused_line}
+use Rattle.lines.proofs.Sinks.{then_puts, stopped}
+use Rattle.lines.proofs.line.AskRefusedLine.put.Goals as goal
+
+pub returns-in_err-named : goal.returns-in_err-named
+unfolding ask_refused_line
+returns-in_err-named g c = stopped _ c.from_residual.ensures.0 c.in_err-named.ensures
+
+pub returns-in_err-named-2 : goal.returns-in_err-named-2
+unfolding ask_refused_line
+returns-in_err-named-2 g c = let laws = g.met.S.Sink.laws in then_puts laws c.in_ok-named.ensures.ok (stopped _ c.from_residual-in_err-named-2.ensures.0 c.in_err-named-2.ensures)
+
+pub returns : goal.returns
+unfolding ask_refused_line
+returns g c = let laws = g.met.S.Sink.laws in then_puts laws c.in_ok-named.ensures.ok (then_puts laws c.in_ok-named-2.ensures.ok (c.end.ensures))

@@ -1,9 +1,0 @@
--- `space::is_outside` meets its contract. Assumes nothing.
-use borrow.Author.Tests.{lt-ltb, le-ltb}
-use Rattle.space.proofs.is_outside.Goals as goal
-
-pub returns-then-x-low : goal.returns-then-x-low
-returns-then-x-low c = simp (lt-ltb _ _ c.if-x-low.true)
-
-pub returns : goal.returns
-returns c = simp (le-ltb _ _ c.if-x-low.false)
