@@ -44,7 +44,7 @@ impl<'a> Set<'a> {
         Ok(())
     }
 
-    // The coordinates of one point, as that part of the lent vectors; an empty part where the point is refused, and no `Result` (a): the point's part is
+    // The coordinates of one point, as that part of the lent vectors; an empty part where the point is refused, and no `Result`: the point's part is
     // defined for all input (`point_of`), and its refusal is the answer of another entry.
     pub fn point(&self, id: usize) -> &'a [i8]
         ensures { result.now ≡ point_of self.now.n self.now.d self.now.vectors.now id }
