@@ -4,7 +4,7 @@ use borrow.Author.Tests.{lt-ltb, le-ltb}
 use Rattle.std.proofs.lemmas.Result.{err_from_is_err_and}
 use Rattle.laws.proofs.RefusalOrder.{passes, walk_order}
 use Rattle.space.proofs.Told.{stopped}
-use Rattle.walk.proofs.check.Goals as goal
+use Rattle.walk.proofs.stand.Stand.check.Goals as goal
 
 pub returns-in_err-asked-clause-refusal : goal.returns-in_err-asked-clause-refusal
 returns-in_err-asked-clause-refusal c =
