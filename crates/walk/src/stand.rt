@@ -60,6 +60,7 @@ impl<'a> Stand<'a> {
     }
 
     // The least key of the points with an edge from here, where it is nearer than here; or D × 128 of here.
+    // Stays: a scan that starts at its limit makes "first in order" and "strictly nearer" one comparison; an Option would need a second one.
     fn least_key(&self) -> u32
         ensures { result
             ≡ least (keyed (D (question_of self.now.asked))) (edge (question_of self.now.asked) self.now.current) (self.now.distance * 128) self.now.asked.points.set.n }
