@@ -6,6 +6,7 @@ ghost use Rattle.table.specs.Rows.{top, lowest, led, Spread, cell_by, Queued, So
 
 use crate::kept::Distances;
 use crate::label;
+use space::{distance_of, id_of};
 
 // Above every distance and every key: it stands for none. An Option is no plainer here: in its order None comes first, and here it has to come last.
 const TOP: u32 = u32::MAX;
@@ -28,17 +29,17 @@ fn is_direct(duv: u32, least: u32) -> bool
 }
 
 // The cell of an edge by the same two.
-fn cell_by(duv: u32, m: u32) -> u16
+fn cell_by(duv: u32, least: u32) -> u16
     requires { duv ≤ 4161600 }
-    ensures { result ≡ cell_by duv m }
+    ensures { result ≡ cell_by duv least }
 {
-    if is_direct(duv, m) {
+    if is_direct(duv, least) {
         return 0;
     }
-    label(duv, m)
+    label(duv, least)
 }
 
-// The point v leads from now on.
+// The point v leads from now on. Stays: the bounds, as for `between`.
 fn spread(distances: &Distances, u: usize, v: usize, lead: &mut [u32; 128])
     requires { (u < 128) × (v < 128) × (length lead.old ≡ 128) }
     ensures { Spread (far distances.now.cells) u v lead.old lead.new }
@@ -103,8 +104,8 @@ impl<'a> Row<'a> {
         ensures cells_after { cells.new
             ≡ set cells.old (key % 128) (cell (far self.old.distances.now.cells) self.old.distances.now.n self.old.u (key % 128)) }
     {
-        let v = (key % 128) as usize;
-        let duv = key / 128;
+        let v = usize::from(id_of(key));
+        let duv = distance_of(key);
         let least = self.lead[v];
         self.left[v] = TOP;
         cells[v] = cell_by(duv, least);

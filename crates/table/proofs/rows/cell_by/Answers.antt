@@ -16,7 +16,7 @@ unfolding cell_by
 returns c =
     let a = c.args in
     let f = sym c.is_direct.ensures ∙ c.if-is_direct.false in
-    let l = leb-false a.duv a.m f in
+    let l = leb-false a.duv a.least f in
     let p : min a.duv 4161600 ≡ a.duv = omega arith in
-    let q : min a.m 4161600 ≡ a.m = omega arith in
+    let q : min a.least 4161600 ≡ a.least = omega arith in
     c.label.ensures ∙ ap₂ label_of p q ∙ simp f
