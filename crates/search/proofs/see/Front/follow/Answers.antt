@@ -1,9 +1,9 @@
 -- `search::Front::follow` meets its contract. Assumes nothing.
 use Prim.Native.Nat.{◌-◌, ◌<◌}
-use mathlib.Core.Path.{◌∙◌}
+use mathlib.Core.Path.{◌≡◌, ◌∙◌}
 use native.Mathlib.Omega.{arith}
 use lib.ListN.{length, get_or}
-use Rattle.search.proofs.Following.{following_reach}
+use Rattle.search.proofs.Following.{following_reach, following_end}
 use Rattle.search.proofs.Seeing.{few}
 use Rattle.search.proofs.see.Front.follow.Goals as goal
 
@@ -17,3 +17,10 @@ loop-i-preserved-then-row-id c =
       following_reach inv.0 c.loop-i-test.true (rw c.from-id.ensures at c.if-row-id.true) there self.listed.size self.listed.few c.reach.ensures.reached,
       c.reach.ensures.asked ∙ inv.1,
     )
+
+pub returns-clause-marked : goal.returns-clause-marked
+returns-clause-marked c =
+    let self = c.loop-i.self in
+    let inv = c.loop-i.invariant in
+    let zero : c.loop-i.i ≡ 0 = omega arith in
+    following_end (rw zero at inv.0) (rw inv.1 at self.listed)
