@@ -71,7 +71,7 @@ impl<'a> Front<'a> {
         }
         self.marks[usize::from(id)] = Mark::Waiting;
         let key = self.asked.key(id);
-        // Stays: the key is pushed to make room, and `put` then moves it to its place; `ArrayVec::insert` takes longer (figures at `line::shift`).
+        // Stays: the key is pushed to make room, and `put` then moves it to its place (with `ArrayVec::insert`, figures at `line::shift`).
         self.line.push(key);
         let at = line::put(self.line.as_mut_slice(), key);
         self.from = at.min(self.from);
