@@ -41,7 +41,8 @@ fn cell_by(duv: u32, least: u32) -> u16
     label(duv, least)
 }
 
-// The point v leads from now on. Stays: the bounds, as for `between`.
+// The point v leads from now on. Stays: the bounds, as for `between`; and no method of `Row`, whose `sofar` does not hold
+// again until v leads.
 fn spread(distances: &Distances, u: usize, v: usize, lead: &mut [u32; 128])
     requires { (u < 128) × (v < 128) × (length lead.old ≡ 128) }
     ensures { Spread (far distances.now.cells) u v lead.old lead.new }
