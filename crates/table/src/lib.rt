@@ -17,8 +17,8 @@ use space::{Points, Refusal, Set};
 // The largest squared distance: 64 coordinates, each 255 apart.
 const FARTHEST: u32 = 4161600;
 
-// t where it does not exceed the root of a less the root of b, and low where it does. Both tests are made each time, since a branch between them
-// takes the build from 1.08 to 1.19 ms at 64 coordinates.
+// t where it does not exceed the root of a less the root of b, and low where it does. Stays: a name for what both tests say. With them in the `if` itself
+// the build takes 1.23 ms in place of 0.80 at 64 coordinates, and with `&` 1.09.
 fn further(a: u64, b: u64, low: u64, t: u64) -> u64
     requires { (a ≤ 256 * 4161600) × (b ≤ 256 * 4161600) × (0 < t) × (t ≤ 32767) }
     ensures { result ≡ cond (reaches a b (t * t)) t low }
@@ -26,7 +26,7 @@ fn further(a: u64, b: u64, low: u64, t: u64) -> u64
     let s = t * t;
     let most = a.saturating_sub(b);
     let x = most.saturating_sub(s);
-    let reaches = (s <= most) & (4 * s * b <= x * x);
+    let reaches = s <= most && 4 * s * b <= x * x;
     if reaches { t } else { low }
 }
 

@@ -7,10 +7,6 @@ use Rattle.rules.specs.Labels.{label_of}
 use Rattle.table.specs.Rows.{cell_by}
 use Rattle.table.proofs.rows.cell_by.Goals as goal
 
-pub returns-then-is_direct : goal.returns-then-is_direct
-unfolding cell_by
-returns-then-is_direct c = simp (sym c.is_direct.ensures ∙ c.if-is_direct.true)
-
 pub returns : goal.returns
 unfolding cell_by
 returns c =
