@@ -21,7 +21,7 @@ use Rattle.sheet.specs.declared.place.Place.{Place}
 use Rattle.std.specs.Prelude.{Result}
 use Rattle.lines.specs.declared.TooShort.{TooShort}
 use Rattle.demands.specs.Calls.{StepCall}
-use Rattle.demands.specs.OtherCalls.{OutsideCall, SetRefusalCall, StartRefusalCall, SmallerCall, MeasureCall, CheckCall, CoordinatesCall, ApartCall, QuestionCheckCall, AwayCall, KeyCall, LabelCall, FieldCall, PlacedCall, PageCall}
+use Rattle.demands.specs.OtherCalls.{OutsideCall, SetRefusalCall, StartRefusalCall, SmallerCall, MeasureCall, CheckCall, CoordinatesCall, ApartCall, QuestionCheckCall, AwayCall, KeyCall, IdCall, DistanceInCall, LabelCall, FieldCall, PlacedCall, PageCall}
 use Rattle.demands.proofs.Fixed.{one}
 
 -- ---- `space`
@@ -87,6 +87,12 @@ away_fixed g h = one g.answers h.answers
 
 pub key_fixed : {d id x y : ℕ} {vectors query : List ℤ} → KeyCall d vectors query id x → KeyCall d vectors query id y → x ≡ y
 key_fixed g h = one g.answers h.answers
+
+pub id_fixed : {key x y : ℕ} → IdCall key x → IdCall key y → x ≡ y
+id_fixed g h = one g.answers h.answers
+
+pub distance-in_fixed : {key x y : ℕ} → DistanceInCall key x → DistanceInCall key y → x ≡ y
+distance-in_fixed g h = one g.answers h.answers
 
 -- ---- `table`
 

@@ -1,5 +1,5 @@
 -- What the public functions beside the entries promise of one call, as `Calls` says it of the entries.
-use Rattle.std.specs.Prelude.{ℕ, min, ◌≡◌, Bool, List, ℤ, take, replicate, Result, IfOk, length}
+use Rattle.std.specs.Prelude.{ℕ, ◌/◌, ◌%◌, min, ◌≡◌, Bool, List, ℤ, take, replicate, Result, IfOk, length}
 use Rattle.rules.specs.Points.{dist, coordinates, apart, away}
 use Rattle.rules.specs.Order.{keyed}
 use Rattle.rules.specs.Labels.{label_of}
@@ -59,6 +59,14 @@ pub record AwayCall (d : ℕ) (vectors query : List ℤ) (id r : ℕ) : Type 0 w
 
 pub record KeyCall (d : ℕ) (vectors query : List ℤ) (id r : ℕ) : Type 0 where
   pub answers : r ≡ keyed (away d vectors query) id
+
+-- the two parts of a key
+
+pub record IdCall (key r : ℕ) : Type 0 where
+  pub answers : r ≡ key % 128
+
+pub record DistanceInCall (key r : ℕ) : Type 0 where
+  pub answers : r ≡ key / 128
 
 -- ---- `table::label`: a number past the largest squared distance counts as that
 

@@ -1,12 +1,12 @@
-// The public functions beside the entries, by the records of specs/OtherCalls. (`sheet::open`, `sheet::past` and `sheet::field` take or hand over a reading
-// place; `sheet::field_from` calls all three.)
+// The public functions beside the entries, by the records of specs/OtherCalls. (`open`, `past` and `field` of a reading place take one or hand one over;
+// `sheet::place::field_from` calls all three.)
 ghost use Rattle.std.specs.Prelude.{length};
 ghost use Rattle.rules.specs.Lines.{set_line, found_line, ask_refused_line, near_line, trail_line, refused_line};
 ghost use Rattle.rules.specs.Program.{lines_of, printed};
 ghost use Rattle.space.specs.Told.{number_in};
 ghost use Rattle.search.specs.Answer.{asked};
 ghost use Rattle.lines.specs.Placing.{three_lines};
-ghost use Rattle.demands.specs.OtherCalls.{OutsideCall, SetRefusalCall, StartRefusalCall, SmallerCall, MeasureCall, CheckCall, CoordinatesCall, ApartCall, QuestionCheckCall, AwayCall, KeyCall, LabelCall, FieldCall, PlacedCall, PageCall};
+ghost use Rattle.demands.specs.OtherCalls.{OutsideCall, SetRefusalCall, StartRefusalCall, SmallerCall, MeasureCall, CheckCall, CoordinatesCall, ApartCall, QuestionCheckCall, AwayCall, KeyCall, IdCall, DistanceInCall, LabelCall, FieldCall, PlacedCall, PageCall};
 
 use lines::{Found, TooShort};
 use search::Ask;
@@ -83,6 +83,18 @@ fn key_call(asked: &Asked<'_>, id: u8) -> u32
     ensures { KeyCall asked.now.points.set.d asked.now.points.set.vectors.now asked.now.query.now id result }
 {
     asked.key(id)
+}
+
+fn id_of_call(key: u32) -> u16
+    ensures { IdCall key result }
+{
+    space::id_of(key)
+}
+
+fn distance_of_call(key: u32) -> u32
+    ensures { DistanceInCall key result }
+{
+    space::distance_of(key)
 }
 
 fn label_call(duv: u32, dwv: u32) -> u16

@@ -28,7 +28,7 @@ impl fmt::Display for TooShort {
 
 impl Error for TooShort {}
 
-// The number of an ask that is answered, and its counts.
+// The number of an ask that is answered, and its counts. The search has a struct of such counts too, but stands beside this crate and not below it.
 #[derive(Clone, Copy, Debug, PartialEq, Eq)]
 pub struct Found {
     pub ask: usize,
@@ -37,7 +37,8 @@ pub struct Found {
     pub walked: usize,
 }
 
-// Each function below answers the place after the bytes. The buffer and the place stay two parameters: a struct of both would hold the `&mut`, and each
+// Each function below answers the place after the bytes. They stay beside this generic one, a name for each line: docs/PROMISES.md names them, and each
+// contract says its line in document 01's terms. The buffer and the place stay two parameters: a struct of both would hold the `&mut`, and each
 // contract would have to say that it still holds the same one, which is no plainer.
 fn placed<L: Line>(line: &L, output: &mut [u8], at: usize) -> Result<usize, TooShort>
     ensures answer { result ≡ placed_answer at (L.bytes line.now) output.old }
@@ -72,7 +73,7 @@ pub fn set_line(
     placed(&Set { n, d, asks }, output, at)
 }
 
-// ask I refused R
+// ask I refused R, of any number too.
 pub fn ask_refused_line(
     ask: usize,
     refusal: usize,
@@ -85,7 +86,7 @@ pub fn ask_refused_line(
     placed(&AskRefused { ask, refusal }, output, at)
 }
 
-// refused R
+// refused R: any number, and no `Refusal`, since the line is defined for every number (rules, `refused_line`).
 pub fn refused_line(refusal: usize, output: &mut [u8], at: usize) -> Result<usize, TooShort>
     ensures answer { result ≡ placed_answer at (refused_line refusal) output.old }
     ensures output { output.new ≡ placed_after at (refused_line refusal) output.old }

@@ -6,7 +6,8 @@ ghost use Rattle.std.specs.Prelude.{◌≤◌, length, IfOk};
 use std::io;
 use std::io::{Print, Read, Stdin};
 
-// Reads until the input ends or the buffer is full, however the bytes arrive, and answers how many there were.
+// Reads until the input ends or the buffer is full, however the bytes arrive, and answers how many there were. The loop stays: `read_to_end` wants the heap, and
+// `read_exact` does not say how much a shorter input gave.
 fn read_all(input: &mut Stdin, buffer: &mut [u8]) -> io::Result<usize>
     ensures { IfOk result (λ n. n ≤ length buffer.new) }
 {

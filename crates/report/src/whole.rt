@@ -10,36 +10,31 @@ use search::Ask;
 use sheet::Head;
 use space::{Question, Set};
 
-// A sheet that is not refused, with what was read of it, and a table of its set.
+// A sheet that is not refused, with its set, a table of it, and how many asks there are.
 #[derive(Clone, Copy)]
 struct Held<'a> {
     sheet: &'a [u8],
-    head: Head,
-    vectors: &'a [i8],
+    set: Set<'a>,
     table: &'a [u16],
-    ghost given: { SheetGiven sheet.now head.n head.d vectors.now },
-    ghost asks_are: { head.asks ≡ ask_count sheet.now },
+    asks: usize,
+    ghost given: { SheetGiven sheet.now set.n set.d set.vectors.now },
+    ghost asks_are: { asks ≡ ask_count sheet.now },
 }
 
 impl Held<'_> {
     // The lines of one ask.
     fn ask_lines(&self, number: u16, page: &mut [u8], at: usize) -> Result<usize, TooShort>
-        requires { number < self.now.head.asks }
+        requires { number < self.now.asks }
         ensures { Paged at (lines_of number (ask_of self.now.sheet.now self.now.table.now number)) page.old page.new result }
     {
-        let head = self.head;
         let mut cells = [0i8; 64];
-        let query = &mut cells[..head.d];
+        let query = &mut cells[..self.set.d];
+        // It is not refused: there is such an ask, and the query has d cells.
         let Ok(numbers) = sheet::ask(self.sheet, number, query) else {
             return Err(TooShort);
         };
-        let set = Set {
-            n: head.n,
-            d: head.d,
-            vectors: self.vectors,
-        };
         let question = Question {
-            set,
+            set: self.set,
             table: self.table,
             query,
             threshold: numbers.threshold,
@@ -56,10 +51,11 @@ impl Held<'_> {
     // The lines of all asks, from a place on.
     fn asks_lines(&self, page: &mut [u8], at: usize) -> Result<usize, TooShort>
         requires { at ≤ length page.old }
-        ensures { Paged at (asks_lines self.now.sheet.now self.now.table.now self.now.head.asks) page.old page.new result }
+        ensures { Paged at (asks_lines self.now.sheet.now self.now.table.now self.now.asks) page.old page.new result }
     {
         let mut end = at;
-        for number in 0..self.head.asks {
+        for number in 0..self.asks {
+            // A sheet has at most 127 asks, so that the cast loses nothing.
             end = self.ask_lines(number as u16, page, end)?;
         }
         Ok(end)
@@ -88,9 +84,9 @@ fn set_lines(
     let _ = table::build(&set, table);
     let held = Held {
         sheet,
-        head,
-        vectors,
+        set,
         table,
+        asks: head.asks,
     };
     let first = lines::set_line(head.n, head.d, head.asks, page, 0)?;
     held.asks_lines(page, first)

@@ -15,11 +15,6 @@ unseen_is Unseen e = refl
 unseen_is Waiting e = absurd (never refl e)
 unseen_is Walked e = absurd (never refl e)
 
-pub not-unseen : (m : Mark) → (m ≡ Unseen → ⊥) → is_seen m ≡ true
-not-unseen Unseen d = absurd (d refl)
-not-unseen Waiting d = refl
-not-unseen Walked d = refl
-
 pub waiting_seen : (m : Mark) → is_waiting m ≡ true → is_seen m ≡ true
 waiting_seen Unseen e = e
 waiting_seen Waiting e = refl

@@ -67,7 +67,7 @@ module _ (marks : List Mark) (start : ℕ) (there : start < length marks) (z : (
   only_started : Started start (set marks start Waiting)
   only_started = record { fresh = record { waiting = start_fresh }; only = fun_ext start_seen }
 
-pub started : (start n : ℕ) → start < n → n ≤ 128 → (marks : List Mark) → marks ≡ reached start (replicate 128 Unseen) → Started start marks
-started start n l small marks e =
+pub started : {start n : ℕ} → start < n → n ≤ 128 → {none marks : List Mark} → none ≡ replicate 128 Unseen → marks ≡ reached start none → Started start marks
+started {start} l small f e =
     let none : List Mark = replicate 128 Unseen in
-    rw (e, ← reached_new start none (unseen-at 128 start)) (only_started none start (omega arith) (unseen-at 128))
+    rw (e, f, ← reached_new start none (unseen-at 128 start)) (only_started none start (omega arith) (unseen-at 128))

@@ -5,9 +5,11 @@ ghost use Rattle.search.specs.Seen.{key_of, Visited, Explored, goes_on, IsFresh}
 
 use crate::line;
 use crate::see::{Front, Mark};
+use space::id_of;
 
 impl Front<'_> {
     // The point x, which waits, goes on the trail, and all points with an edge from x become seen.
+    // Stays: the clause `asked`, as at `see`.
     fn visit(&mut self, x: usize)
         requires { (x < self.old.asked.points.set.n) × (waits self.old.marks x ≡ true) }
         ensures asked { self.new.asked ≡ self.old.asked }
@@ -39,10 +41,10 @@ impl Front<'_> {
             self.old.marks trail.old self.new.line.items trail.new result }
     {
         let mut walked = 0;
-        // A `for` over the places of the trail is no plainer: the stop is a test, and it mostly comes before they end.
+        // Stays: a `for` over the places of the trail is no plainer, since the stop is a test that mostly comes before they end.
         while self.goes_on(width) {
             let from = self.from;
-            let x = (self.line[from] % 128) as u16;
+            let x = id_of(self.line[from]);
             trail[walked] = x;
             self.visit(usize::from(x));
             walked += 1;

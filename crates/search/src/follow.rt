@@ -8,26 +8,28 @@ use crate::see::Front;
 
 impl Front<'_> {
     // The point at place i of the list has an edge: it becomes seen, unless it is, and leaves the list, where the last one takes its place.
+    // Stays: the clause `asked`, as at `see`.
     fn reach(&mut self, i: usize)
-        requires { i < self.old.left }
+        requires { i < self.old.rest_length }
         ensures asked { self.new.asked ≡ self.old.asked }
-        ensures reached { Reached self.old.marks self.old.rest i self.old.left self.new.marks self.new.rest self.new.left }
+        ensures reached { Reached self.old.marks self.old.rest i self.old.rest_length self.new.marks self.new.rest self.new.rest_length }
     {
         let id = self.rest[i];
         self.see(id);
-        let left = self.left - 1;
-        self.rest[i] = self.rest[left];
-        self.left = left;
+        let last = self.rest_length - 1;
+        self.rest[i] = self.rest[last];
+        self.rest_length = last;
     }
 
     // All points with an edge in a row become seen. From the list's end down, so that the one that takes another's place has been looked at.
+    // Stays: the clause `asked`, as at `see`.
     pub(crate) fn follow(&mut self, row: &[u16])
         requires { length row.now ≡ self.old.asked.points.set.n }
         ensures asked { self.new.asked ≡ self.old.asked }
         ensures marked { Marked self.old.asked.points.set.n row.now self.old.asked.threshold self.old.marks self.new.marks }
     {
         let threshold = self.asked.threshold;
-        for i in (0..self.left).rev() {
+        for i in (0..self.rest_length).rev() {
             let id = usize::from(self.rest[i]);
             if row[id] <= threshold {
                 self.reach(i);

@@ -58,19 +58,21 @@ impl Ask<'_> {
 }
 
 // The points of a line, as ids and squared distances.
+// Stays: ids and distances are two buffers, since C lends two.
 fn answer(line: &[u32], ids: &mut [u16], distances: &mut [u32])
     requires { (length line.now ≤ length ids.old) × (length line.now ≤ length distances.old) }
     ensures ids { ids.new ≡ over (map id_of line.now) ids.old }
     ensures distances { distances.new ≡ over (map distance_of line.now) distances.old }
 {
     for (i, key) in line.iter().enumerate() {
-        ids[i] = (*key % 128) as u16;
-        distances[i] = *key / 128;
+        ids[i] = space::id_of(*key);
+        distances[i] = space::distance_of(*key);
     }
 }
 
 // Searches the lent table from the ask's start at its threshold. Where nothing is refused, ids and squared distances of the points found go to the front of
 // their buffers in order from the query, and the trail to the front of its own; the cells past them keep what they held.
+// Stays: ids and distances are two buffers, since C lends two.
 pub fn search(
     ask: &Ask<'_>,
     ids: &mut [u16],
@@ -85,6 +87,7 @@ pub fn search(
     let question = ask.question.check(usize::from(ask.start))?;
     ask.rest_refusal(ids.len(), distances.len(), trail.len())?;
     let mut front = Front::new(question);
+    // A start that is not refused is below n, so at most 127, and the cast loses nothing: `try_from` and `unwrap` would say the same longer.
     front.see(ask.start as u8);
     let walked = front.explore(usize::from(ask.width), trail);
     let seen = front.line.len();

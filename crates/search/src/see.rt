@@ -23,11 +23,11 @@ pub(crate) struct Front<'a> {
     pub(crate) marks: [Mark; 128],
     pub(crate) line: ArrayVec<u32, 128>,
     pub(crate) from: usize,
-    // An array with its length beside it: with an `ArrayVec` in its place a search took 12 to 35 % longer.
+    // Stays: an array with its length beside it; with an `ArrayVec` in its place a search took 12 to 35 % longer in the same run, and the bar is 5 %.
     pub(crate) rest: [u8; 128],
-    pub(crate) left: usize,
+    pub(crate) rest_length: usize,
     pub(crate) ghost lined: { Lined asked.points.set.n (key_of asked) marks line.items from },
-    pub(crate) ghost listed: { Rest asked.points.set.n marks rest left },
+    pub(crate) ghost listed: { Rest asked.points.set.n marks rest rest_length },
 }
 
 // Every id, in order.
@@ -53,16 +53,17 @@ impl<'a> Front<'a> {
             line: ArrayVec::new(),
             from: 0,
             rest: every_id(),
-            left: asked.points.set.n,
+            rest_length: asked.points.set.n,
         }
     }
 
     // A point becomes seen, unless it is: its key goes into the line.
+    // Stays: the clause `asked`; the ghost fields speak of the question, so each method has to say that it is the same.
     pub(crate) fn see(&mut self, id: u8)
         requires { id < self.old.asked.points.set.n }
         ensures asked { self.new.asked ≡ self.old.asked }
         ensures marks { self.new.marks ≡ reached id self.old.marks }
-        ensures rest { (self.new.rest ≡ self.old.rest) × (self.new.left ≡ self.old.left) }
+        ensures rest { (self.new.rest ≡ self.old.rest) × (self.new.rest_length ≡ self.old.rest_length) }
     {
         let mark = self.marks[usize::from(id)];
         if mark != Mark::Unseen {
@@ -70,6 +71,7 @@ impl<'a> Front<'a> {
         }
         self.marks[usize::from(id)] = Mark::Waiting;
         let key = self.asked.key(id);
+        // Stays: the key is pushed to make room, and `put` then moves it to its place (with `ArrayVec::insert`, figures at `line::shift`).
         self.line.push(key);
         let at = line::put(self.line.as_mut_slice(), key);
         self.from = at.min(self.from);

@@ -34,5 +34,6 @@ pub(crate) fn field_at(sheet: &[u8], at: usize, bits: usize) -> u16
 {
     let there = bits_at(sheet.len(), at, bits);
     let three = three_at(sheet, at / 8);
+    // At most 16 bits are left, so that the cast loses none; `try_from` and `unwrap` would say the same longer.
     ((three >> (24 - at % 8 - there)) % (1 << there)) as u16
 }

@@ -16,7 +16,7 @@ ghost use Rattle.rules.specs.Entries.{write_answer, output_after, header_answer,
 ghost use Rattle.space.specs.Told.{number_in};
 ghost use Rattle.sheet.specs.Answers.{held, row_of, write_told, head_told, ask_told};
 
-use crate::place::{Place, open, past};
+use crate::place::Place;
 use crate::read::check;
 use crate::values::Width;
 use space::Refusal;
@@ -31,7 +31,7 @@ pub struct Head {
 }
 
 // What a sheet is written of: the points' coordinates, each in c bits, and for each ask four numbers (start, width, k, threshold) and
-// a query.
+// a query. Numbers and queries stay flat, one ask after the other: so C lends them, and so document 01 counts them.
 #[derive(Clone, Copy)]
 pub struct Contents<'a> {
     pub head: Head,
@@ -65,7 +65,7 @@ impl Head {
 }
 
 impl Numbers {
-    // The numbers of an ask, as the writer is given them.
+    // The numbers of an ask, as the writer is given them. No `From`: it takes no `requires`, and a row has to have four.
     fn of(row: &[u16]) -> Numbers
         requires { length row.now ≡ 4 }
         ensures { row_of result ≡ row.now }
@@ -122,7 +122,9 @@ pub fn vectors(sheet: &[u8], buffer: &mut [i8]) -> Result<(), Refusal>
     if buffer.len() != head.n * head.d {
         return Err(Refusal::Vectors);
     }
-    past(open(sheet), 24).fill(Width { c: head.c }, buffer);
+    Place::open(sheet)
+        .past(24)
+        .fill(Width { c: head.c }, buffer);
     Ok(())
 }
 
@@ -140,7 +142,7 @@ pub fn ask(sheet: &[u8], number: u16, query: &mut [i8]) -> Result<Numbers, Refus
     if query.len() != head.d {
         return Err(Refusal::Query);
     }
-    let mut place = past(open(sheet), head.place(number));
+    let mut place = Place::open(sheet).past(head.place(number));
     let numbers = Numbers::read(&mut place);
     place.fill(Width { c: head.c }, query);
     Ok(numbers)

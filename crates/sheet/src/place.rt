@@ -1,5 +1,4 @@
 // The reading place: it keeps the sheet and the next bit. All reading goes by it, and `field_from` reads by it for those who know a bit's number.
-// (a) `open`, `past`, `field` and `field_from` stay functions: they are public, and docs name each with its promise.
 ghost use Rattle.std.specs.Prelude.{◌≡◌, ◌+◌, ◌*◌, ◌^◌, ◌≤◌, ◌<◌, min, length, drop};
 ghost use Rattle.rules.specs.Bits.{values, unpacked};
 ghost use Rattle.rules.specs.Sheet.{field_at};
@@ -14,15 +13,39 @@ pub struct Place<'a> {
     pub next: usize,
 }
 
-impl Place<'_> {
+impl<'a> Place<'a> {
+    // The place before the first bit.
+    pub fn open(sheet: &'a [u8]) -> Place<'a>
+        ensures { (result.sheet ≡ sheet.entry) × (result.next ≡ 0) }
+    {
+        Place { sheet, next: 0 }
+    }
+
+    // The place so many bits further on.
+    pub fn past(self, bits: usize) -> Place<'a>
+        ensures { (result.sheet ≡ self.entry.sheet) × (result.next ≡ past_at self.entry.next bits) }
+    {
+        Place {
+            sheet: self.sheet,
+            next: self.next.saturating_add(bits),
+        }
+    }
+
+    // The number in the next bits, of which at most 16 are read. A field ends where the sheet does.
+    pub fn field(self, bits: usize) -> u16
+        ensures { result ≡ field_at self.entry.sheet.now self.entry.next (min bits 16) }
+    {
+        field_at(self.sheet, self.next, bits)
+    }
+
     // The number in the next bits, of which at most 16 are read; the place moves past them.
     pub(crate) fn take(&mut self, bits: usize) -> u16
         ensures value { result ≡ field_at self.old.sheet.now self.old.next (min bits 16) }
         ensures same { self.new.sheet ≡ self.old.sheet }
         ensures moved { self.new.next ≡ past_at self.old.next bits }
     {
-        let number = field(*self, bits);
-        *self = past(*self, bits);
+        let number = self.field(bits);
+        *self = self.past(bits);
         number
     }
 
@@ -37,33 +60,9 @@ impl Place<'_> {
     }
 }
 
-// The place before the first bit.
-pub fn open<'a>(sheet: &'a [u8]) -> Place<'a>
-    ensures { (result.sheet ≡ sheet.entry) × (result.next ≡ 0) }
-{
-    Place { sheet, next: 0 }
-}
-
-// The place so many bits further on.
-pub fn past<'a>(place: Place<'a>, bits: usize) -> Place<'a>
-    ensures { (result.sheet ≡ place.entry.sheet) × (result.next ≡ past_at place.entry.next bits) }
-{
-    Place {
-        sheet: place.sheet,
-        next: place.next.saturating_add(bits),
-    }
-}
-
-// The number in the next bits, of which at most 16 are read. A field ends where the sheet does.
-pub fn field<'a>(place: Place<'a>, bits: usize) -> u16
-    ensures { result ≡ field_at place.entry.sheet.now place.entry.next (min bits 16) }
-{
-    field_at(place.sheet, place.next, bits)
-}
-
 // The number in the bits from bit `at` on, by way of a reading place.
 pub fn field_from(sheet: &[u8], at: usize, bits: usize) -> u16
     ensures { result ≡ field_at sheet.now at (min bits 16) }
 {
-    field(past(open(sheet), at), bits)
+    Place::open(sheet).past(at).field(bits)
 }

@@ -11,7 +11,8 @@ use crate::Numbers;
 use crate::refuse::Accepted;
 use crate::values::Width;
 
-// It keeps the output and the next bit. The bits after that one, to the byte's end, are 0.
+// It keeps the output and the next bit. The bits after that one, to the byte's end, are 0. Each method asks for the room that it needs, and says what it put:
+// `Room` and `Puts` stay in the contracts, since the number of bits and the bits differ.
 #[derive(Drop)]
 pub(crate) struct Pen<'a> {
     pub(crate) out: &'a mut [u8],
@@ -29,6 +30,7 @@ impl Pen<'_> {
         let place = self.next / 8;
         let before = self.next % 8;
         let kept = usize::from(self.out[place]) >> (8 - before);
+        // What was kept, the new bits and the zeros after them are eight bits, so that the cast loses none.
         self.out[place] = (((kept << k) + v % (1 << k)) << (8 - before - k)) as u8;
         self.next += k;
     }
@@ -41,7 +43,7 @@ impl Pen<'_> {
         ensures moved { self.new.next ≡ self.old.next + w }
     {
         let mut k = w;
-        // (d) The parts of a field differ in length, so what is left is counted, and no iterator has them.
+        // Stays: the parts of a field differ in length, so what is left is counted, and no iterator has them.
         while k > 0 {
             let t = k.min(8 - self.next % 8);
             k -= t;

@@ -5,7 +5,7 @@ ghost use Rattle.space.specs.Told.{number_in};
 ghost use Rattle.sheet.specs.Answers.{head_of};
 
 use crate::Head;
-use crate::place::{field_from, open};
+use crate::place::{Place, field_from};
 use space::Refusal;
 
 // The header's four numbers, whatever the sheet is.
@@ -16,7 +16,7 @@ fn head(sheet: &[u8]) -> Head
     ensures coordinates { result.d ≤ 64 }
     ensures width { (1 ≤ result.c) × (result.c ≤ 8) }
 {
-    let mut place = open(sheet);
+    let mut place = Place::open(sheet);
     Head {
         n: usize::from(place.take(7)) + 1,
         d: usize::from(place.take(6)) + 1,

@@ -18,6 +18,7 @@ impl Width {
         ensures { result ≡ signed self.c u }
     {
         let rest = 8 - self.c;
+        // A number of c bits moved to a byte's front is a byte, so that the cast loses nothing.
         ((u << rest) as u8).cast_signed() >> rest
     }
 

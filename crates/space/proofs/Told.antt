@@ -6,11 +6,13 @@ use mathlib.Core.List.{List, [], ◌∷◌}
 use native.Mathlib.Omega.{arith}
 use lib.ListN.{get_or}
 use Rattle.std.specs.Prelude.{Result, Ok, Err}
+use Rattle.std.specs.Result.{IsErrAnd}
+use Rattle.std.proofs.lemmas.Result.{err_from_is_err_and}
 use Rattle.rules.specs.Outcome.{or_else}
 use Rattle.laws.proofs.RefusalOrder.{stops}
 use Rattle.space.specs.declared.refusal.Refusal.{Refusal}
 use Rattle.space.specs.declared.refusal.Refusal.TheVariants.{Points, Coordinates, Vectors, Table, Query, Id, Width, Count, Threshold, Room, ValueWidth, Asks, Misfit, Output, Short, Long, AskNumber, Moves}
-use Rattle.space.specs.Told.{number, told}
+use Rattle.space.specs.Told.{number, number_in, told}
 
 -- the refusals by their numbers; 0 is none's
 abbrev all : List Refusal
@@ -83,6 +85,10 @@ number-some Moves e = omega arith
 -- a refusal that another order begins with is that order's too
 pub stopped : (r : Refusal) {s o : ℕ} (x : ℕ) → o ≡ or_else s x → number r ≡ s → number r ≡ o
 stopped r x order e = stops x order e (number-some r)
+
+-- the same where a `?` hands it on
+pub exits : {A : Type 0} {s o : ℕ} (r : Result A Refusal) (e : Refusal) → IsErrAnd r (λ y. y ≡ e) → (x : ℕ) → o ≡ or_else s x → number e ≡ s → number_in r ≡ o
+exits r e is x order same = let p = err_from_is_err_and r is in rw (p.1, p.2) (stopped e x order same)
 
 -- answers that say the same are the same, where what is given loses nothing in the rules' terms
 module _ {A B : Type 0} (f : A → B) (one : (a b : A) → f a ≡ f b → a ≡ b) where

@@ -1,4 +1,5 @@
-// D in blocks of coordinates. The compiler makes wide code of a block whose terms are written out, and of a difference that is a byte.
+// D in blocks of coordinates. The compiler makes wide code of a block whose terms are written out, and of a difference that is a byte. One function for
+// each size of block stays: with the size as a const parameter and a loop, D took 16.9 ns against 8.8 at 64 coordinates.
 ghost use Rattle.std.specs.Prelude.{◌+◌, ◌<◌, ◌≤◌, length};
 ghost use Rattle.space.specs.Pairs.{Pairs};
 

@@ -7,10 +7,12 @@ ghost use Rattle.rules.specs.Refusals.{outside, set_refusal, start_refusal};
 ghost use Rattle.space.specs.Told.{number_in};
 
 mod blocks;
+mod key;
 mod question;
 mod refusal;
 mod set;
 
+pub use key::{distance_of, id_of};
 pub use question::{Asked, Question};
 pub use refusal::Refusal;
 pub use set::{Points, Set};
@@ -38,7 +40,8 @@ pub fn set_refusal(n: usize, d: usize, vectors: usize) -> Result<(), Refusal>
     Ok(())
 }
 
-// Refusals 1 to 6, with which every entry begins that is lent a set, its table, a query and an id to start from, by the lengths of what is lent.
+// Refusals 1 to 6, with which every entry begins that is lent a set, its table, a query and an id to start from, by the lengths of what is lent. Six numbers
+// stay: `start_refusal_fixed` is about all lengths, also those that no slice has.
 pub fn start_refusal(
     n: usize,
     d: usize,
@@ -62,7 +65,7 @@ pub fn start_refusal(
     Ok(())
 }
 
-// The smaller of two numbers.
+// The smaller of two numbers. It stays beside `min`: docs/PROMISES.md names it, with its theorem `smaller_fixed`.
 pub fn smaller(x: usize, y: usize) -> usize
     ensures { result ≡ min x y }
 {
@@ -77,6 +80,7 @@ pub fn distance(a: &[i8], b: &[i8]) -> u32
     let n = a.len().min(b.len()).min(64);
     let mut sum: u32 = 0;
     let mut i = 0;
+    // Stays by hand: `as_chunks` and a `zip` in place of the blocks took 11.4 ns against 9.1 at 64 coordinates and 7.0 against 4.5 at 16.
     while 32 <= n - i {
         sum += blocks::thirty_two(a, b, i);
         i += 32;

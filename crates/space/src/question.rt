@@ -18,7 +18,8 @@ pub struct Question<'a> {
     pub threshold: u16,
 }
 
-// A question that is not refused.
+// A question that is not refused. Its fields are the question's, with the set as one that is not refused, whose points are then at hand: it stays
+// beside it, since a question inside would give the set twice.
 #[derive(Clone, Copy)]
 pub struct Asked<'a> {
     pub points: Points<'a>,
@@ -59,7 +60,7 @@ impl<'a> Question<'a> {
 }
 
 impl Asked<'_> {
-    // D from the query to a point; 0 where there is no such point.
+    // D from the query to a point; 0 where there is no such point, so that no caller has to show that there is.
     pub fn away(&self, id: usize) -> u32
         ensures value { result ≡ away self.now.points.set.d self.now.points.set.vectors.now self.now.query.now id }
         ensures bounded { result ≤ 4161600 }

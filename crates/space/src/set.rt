@@ -44,7 +44,8 @@ impl<'a> Set<'a> {
         Ok(())
     }
 
-    // The coordinates of one point, as that part of the lent vectors; an empty part where the point is refused.
+    // The coordinates of one point, as that part of the lent vectors; an empty part where the point is refused, and no `Result`: the point's part is
+    // defined for all input (`point_of`), and its refusal is the answer of another entry.
     pub fn point(&self, id: usize) -> &'a [i8]
         ensures { result.now ≡ point_of self.now.n self.now.d self.now.vectors.now id }
     {
@@ -64,7 +65,7 @@ impl<'a> Set<'a> {
 }
 
 impl<'a> Points<'a> {
-    // The coordinates of one point; none where there is no such point.
+    // The coordinates of one point; an empty part where there is no such point, so that no caller has to show that there is.
     pub fn coordinates(&self, id: usize) -> &'a [i8]
         ensures { result.now ≡ coordinates self.now.set.d self.now.set.vectors.now id }
     {

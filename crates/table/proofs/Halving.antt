@@ -3,7 +3,7 @@ use Prim.Native.Nat.{ℕ, ◌+◌, ◌-◌, ◌*◌, ◌/◌, ◌≤◌, ◌<◌
 use mathlib.Core.Path.{◌≡◌, sym, ap, subst, ◌∙◌}
 use mathlib.Core.Bool.{Bool, true, false, cond, ◌&&◌}
 use mathlib.Core.Logic.{⊎_elim}
-use native.Mathlib.Nat.{mul-le-mul, lt_irrefl}
+use native.Mathlib.Nat.{mul-le-mul}
 use native.Mathlib.Omega.{arith}
 use lib.Dec.{leb}
 use borrow.Author.Tests.{le-leb, lt-leb, leb-true, leb-false}
@@ -28,14 +28,6 @@ pub record Halved (a b low width : ℕ) : Type 0 where
   pub within : low + width ≤ 32768
   pub passes : 0 < low → reaches a b (low * low) ≡ true
   pub fails : low + width < 32768 → reaches a b ((low + width) * (low + width)) ≡ false
-
-pub halved_start : {a b : ℕ} → Halved a b 0 32768
-halved_start = record {
-  some = omega arith;
-  within = omega arith;
-  passes = λ h. absurd (lt_irrefl 0 h);
-  fails = λ h. absurd (lt_irrefl 32768 h);
-}
 
 -- a larger number than one that fails fails
 fails_up : (a b s t : ℕ) → s ≤ t → reaches a b (s * s) ≡ false → reaches a b (t * t) ≡ false

@@ -1,6 +1,6 @@
 -- One id of a row after the other: the first of those that wait gets its cell, and then leads if its edge is direct. Assumes nothing.
 use Prim.Native.Nat.{ℕ, ◌+◌, ◌*◌, ◌/◌, ◌%◌, ◌≤◌, ◌<◌, min}
-use mathlib.Core.Path.{◌≡◌, refl, sym, ap, subst, ◌∙◌}
+use mathlib.Core.Path.{◌≡◌, refl, sym, ap, ap₂, subst, ◌∙◌}
 use mathlib.Core.Logic.{◌≢◌, inl, inr, ⊎_elim, ∥∥₁_elim, ∥∥₁_map}
 use Rattle.std.proofs.Math.Nat.{ℕ_set}
 use Rattle.std.proofs.Math.Bool.{Bool-set}
@@ -18,8 +18,9 @@ use Rattle.rules.specs.Order.{keyed}
 use Rattle.rules.specs.Labels.{leads, cell}
 use Rattle.laws.proofs.Tests.{both, and_l, and_i, and_false}
 use Rattle.laws.proofs.Table.{leads-is}
-use Rattle.table.specs.Kept.{Mutual}
+use Rattle.table.specs.Kept.{far, Mutual}
 use Rattle.table.specs.Rows.{top, lowest, Least, done, led, Spread, cell_by, Waiting, Sofar}
+use Rattle.table.specs.declared.rows.Row.{Row}
 use Rattle.table.proofs.Least.{lowest-under, lowest-met, least-add, direct-by, cell_by_lem}
 
 -- ---- who waits
@@ -156,38 +157,64 @@ module _ {δ : ℕ → ℕ → ℕ} {n u key v : ℕ} {left lead : List ℕ} (ke
 
 -- ---- the same, by the first key
 
-module _ {δ : ℕ → ℕ → ℕ} {n u key : ℕ} {left lead : List ℕ} (kept : Mutual δ n) (lu : u < n) (sofar : ∥ Sofar δ n u left lead ∥₁) (e : key ≡ lowest left)
-    (h : key < top) where
+-- some id of row u waits, and this key is the first
+pub record First (δ : ℕ → ℕ → ℕ) (n u : ℕ) (left lead : List ℕ) (key : ℕ) : Type 0 where
+  pub kept : Mutual δ n
+  pub row : u < n
+  pub sofar : ∥ Sofar δ n u left lead ∥₁
+  pub next : key ≡ lowest left
+  pub some : key < top
+
+-- the same of a row as it stands
+pub first_of : (s : Row) {key : ℕ} → (key ≡ lowest s.left) × (key < top) → First (far s.distances.now.cells) s.distances.now.n s.u s.left s.lead key
+first_of s h = record { kept = s.distances.now.both_ways; row = s.u_in; sofar = s.sofar; next = h.0; some = h.1 }
+
+module _ {δ : ℕ → ℕ → ℕ} {n u key : ℕ} {left lead : List ℕ} (f : First δ n u left lead key) where
   first : Sofar δ n u left lead → Chosen δ n u left key (key % 128)
-  first s = chosen kept.few s.long_left s.waiting e h
+  first s = chosen f.kept.few s.long_left s.waiting f.next f.some
 
   pub first_long : length left ≡ 128
-  first_long = ∥∥₁_elim sofar (ℕ_set _ _) (λ s. s.long_left)
+  first_long = ∥∥₁_elim f.sofar (ℕ_set _ _) (λ s. s.long_left)
 
   -- the id is one of the set's, and its distance within the limit
   pub first_below : key % 128 < n
-  first_below = ∥∥₁_elim sofar le_prop (λ s. (first s).below)
+  first_below = ∥∥₁_elim f.sofar le_prop (λ s. (first s).below)
 
   pub first-waits : done left (key % 128) ≡ false
-  first-waits = ∥∥₁_elim sofar (Bool-set _ _) (λ s. (first s).waiting)
+  first-waits = ∥∥₁_elim f.sofar (Bool-set _ _) (λ s. (first s).waiting)
 
-  pub first_small : key / 128 ≤ 4161600
-  first_small = ∥∥₁_elim sofar le_prop (λ s. rw (first s).far (kept.small u (key % 128) lu first_below))
+  -- by the two parts of the key, as the code has them
+  module _ {v duv : ℕ} (place : v ≡ key % 128) (apart : duv ≡ key / 128) where
+    pub first_small : duv ≤ 4161600
+    first_small = rw apart (∥∥₁_elim f.sofar le_prop (λ s. rw (first s).far (f.kept.small u (key % 128) f.row first_below)))
 
-  pub first_cell : {x : ℕ} → x ≡ cell_by (key / 128) (get_or lead (key % 128) 0) → x ≡ cell δ n u (key % 128)
-  first_cell p =
-      ∥∥₁_elim
-      sofar
-      (ℕ_set _ _)
-      (λ s. p ∙ ap (λ (k : ℕ). cell_by k (get_or lead (key % 128) 0)) (first s).far ∙ sym (settled_cell kept lu s (first s)))
+    pub first_room : (cells : List ℕ) → length cells ≡ n → v < length cells
+    first_room cells long = omega (arith, place, long, first_below)
 
-  -- where its edge is direct it leads from now on, and otherwise it does not
-  pub first-leads : {lead' : List ℕ} → leb (key / 128) (get_or lead (key % 128) 0) ≡ true → Spread δ u (key % 128) lead lead' →
-      ∥ Sofar δ n u (set left (key % 128) top) lead' ∥₁
-  first-leads {lead'} t spread =
-      ∥∥₁_map
-      sofar
-      (λ s. settled kept lu s (first s) lead' spread.long (λ x l. spread.each x (omega (arith, kept.few)) ∙ rw (rw (first s).far at t)))
+    pub first_cell : {x : ℕ} (cells : List ℕ) → x ≡ cell_by duv (get_or lead v 0) → set cells v x ≡ set cells (key % 128) (cell δ n u (key % 128))
+    first_cell cells p =
+        ap₂
+        (set cells)
+        place
+        (∥∥₁_elim
+        f.sofar
+        (ℕ_set _ _)
+        (λ s.
+        p
+        ∙ ap₂ (λ (k j : ℕ). cell_by k (get_or lead j 0)) (apart ∙ (first s).far) place
+        ∙ sym (settled_cell f.kept f.row s (first s))))
 
-  pub first_stays : leb (key / 128) (get_or lead (key % 128) 0) ≡ false → ∥ Sofar δ n u (set left (key % 128) top) lead ∥₁
-  first_stays f = ∥∥₁_map sofar (λ s. settled kept lu s (first s) lead s.long_lead (λ x l. rw (rw (first s).far at f)))
+    -- where its edge is direct it leads from now on, and otherwise it does not
+    pub first-leads : {lead' : List ℕ} → leb duv (get_or lead v 0) ≡ true → Spread δ u v lead lead' → ∥ Sofar δ n u (set left v top) lead' ∥₁
+    first-leads {lead'} t spread =
+        rw
+        place
+        (∥∥₁_map
+        f.sofar
+        (λ s.
+        let spread : Spread δ u (key % 128) lead lead' = rw place at spread in
+        settled f.kept f.row s (first s) lead' spread.long (λ x l. spread.each x (omega (arith, f.kept.few)) ∙ rw (rw (place, apart, (first s).far) at t))))
+
+    pub first_stays : leb duv (get_or lead v 0) ≡ false → ∥ Sofar δ n u (set left v top) lead ∥₁
+    first_stays t =
+        rw place (∥∥₁_map f.sofar (λ s. settled f.kept f.row s (first s) lead s.long_lead (λ x l. rw (rw (place, apart, (first s).far) at t))))

@@ -1,14 +1,17 @@
 // D of each two ids of a set, summed once for both ways and kept while the table is built.
-ghost use Rattle.std.specs.Prelude.{◌≡◌, ◌+◌, ◌*◌, ◌<◌, ◌≤◌, length, set};
+ghost use Rattle.std.specs.Prelude.{◌≡◌, ◌*◌, ◌<◌, length};
 ghost use Rattle.rules.specs.Points.{apart};
 ghost use Rattle.table.specs.Kept.{far, Mutual, Filled};
 
 use space::Points;
 
-// D(u,v) stands at 128 × u + v.
+// How many distances there are for 128 points.
+const PLACES: usize = 16384;
+
+// D(u,v) stands at 128 × u + v, and n beside: nothing in the library allocates, so the distances of any n stand in an array for 128 points.
 #[derive(Drop)]
 pub(crate) struct Distances {
-    pub(crate) cells: [u32; 16384],
+    pub(crate) cells: [u32; PLACES],
     pub(crate) n: usize,
     ghost long: { length cells ≡ 16384 },
     ghost both_ways: { Mutual (far cells) n },
@@ -20,38 +23,19 @@ impl Distances {
         ensures filled { Filled (apart points.now.set.d points.now.set.vectors.now) points.now.set.n result.cells }
     {
         let n = points.set.n;
-        let mut distances = Distances {
-            cells: [0; 16384],
-            n,
-        };
+        let mut cells = [0; PLACES];
         for u in 0..n {
-            distances.fill_row(points, u);
+            for v in 0..u + 1 {
+                let x = points.apart(u, v);
+                cells[u * 128 + v] = x;
+                cells[v * 128 + u] = x;
+            }
         }
-        distances
+        Distances { cells, n }
     }
 
-    // D between u and each id up to u.
-    fn fill_row(&mut self, points: &Points, u: usize)
-        requires u_in { u < self.old.n }
-        requires before { Filled (apart points.now.set.d points.now.set.vectors.now) u self.old.cells }
-        ensures same_n { self.new.n ≡ self.old.n }
-        ensures filled { Filled (apart points.now.set.d points.now.set.vectors.now) (u + 1) self.new.cells }
-    {
-        for v in 0..u + 1 {
-            self.put_both(u, v, points.apart(u, v));
-        }
-    }
-
-    fn put_both(&mut self, u: usize, v: usize, x: u32)
-        requires { (u < 128) × (v < 128) × (x ≤ 4161600) }
-        ensures same_n { self.new.n ≡ self.old.n }
-        ensures put { self.new.cells ≡ set (set self.old.cells (u * 128 + v) x) (v * 128 + u) x }
-    {
-        self.cells[u * 128 + v] = x;
-        self.cells[v * 128 + u] = x;
-    }
-
-    // D(u,v).
+    // D(u,v). Stays: the bound on u and v. An id is a plain number here, as in the table's cells, and the index needs no more than this of it.
+    #[tactic(auto, unfolding(crate::specs::Kept::far))]
     pub(crate) fn between(&self, u: usize, v: usize) -> u32
         requires { (u < 128) × (v < 128) }
         ensures { result ≡ far self.now.cells u v }

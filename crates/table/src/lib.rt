@@ -14,16 +14,19 @@ use kept::Distances;
 use rows::write_rows;
 use space::{Points, Refusal, Set};
 
-// t where it does not exceed the root of a less the root of b, and low where it does. Both tests are made each time, since a branch between them
-// takes the build from 1.08 to 1.19 ms at 64 coordinates.
+// The largest squared distance: 64 coordinates, each 255 apart.
+const FARTHEST: u32 = 4161600;
+
+// t where it does not exceed the root of a less the root of b, and low where it does. Stays: a name for what both tests say. With them in the `if` itself
+// the build takes 1.23 ms in place of 0.80 at 64 coordinates, and with `&` 1.09.
 fn further(a: u64, b: u64, low: u64, t: u64) -> u64
-    requires { (a ≤ 1065369600) × (b ≤ 1065369600) × (0 < t) × (t ≤ 32767) }
+    requires { (a ≤ 256 * 4161600) × (b ≤ 256 * 4161600) × (0 < t) × (t ≤ 32767) }
     ensures { result ≡ cond (reaches a b (t * t)) t low }
 {
     let s = t * t;
     let most = a.saturating_sub(b);
     let x = most.saturating_sub(s);
-    let reaches = (s <= most) & (4 * s * b <= x * x);
+    let reaches = s <= most && 4 * s * b <= x * x;
     if reaches { t } else { low }
 }
 
@@ -31,8 +34,8 @@ fn further(a: u64, b: u64, low: u64, t: u64) -> u64
 pub fn label(duv: u32, dwv: u32) -> u16
     ensures { result ≡ label_of (min duv 4161600) (min dwv 4161600) }
 {
-    let a = 256 * u64::from(duv.min(4161600));
-    let b = 256 * u64::from(dwv.min(4161600));
+    let a = 256 * u64::from(duv.min(FARTHEST));
+    let b = 256 * u64::from(dwv.min(FARTHEST));
     let mut low: u64 = 0;
     let mut width: u64 = 32768;
     while 1 < width {
@@ -40,6 +43,7 @@ pub fn label(duv: u32, dwv: u32) -> u16
         low = further(a, b, low, low + half);
         width -= half;
     }
+    // Loses nothing: low is below 32768.
     low as u16
 }
 

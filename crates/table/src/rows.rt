@@ -6,11 +6,13 @@ ghost use Rattle.table.specs.Rows.{top, lowest, led, Spread, cell_by, Queued, So
 
 use crate::kept::Distances;
 use crate::label;
+use space::{distance_of, id_of};
 
 // Above every distance and every key: it stands for none. An Option is no plainer here: in its order None comes first, and here it has to come last.
 const TOP: u32 = u32::MAX;
 
 // The least distance to x from a point that leads, where v leads too if it is nearer to u than x is.
+#[tactic(auto, unfolding(crate::specs::Rows::led))]
 fn led_to(duv: u32, dux: u32, dvx: u32, least: u32) -> u32
     ensures { result ≡ led duv dux dvx least }
 {
@@ -28,17 +30,19 @@ fn is_direct(duv: u32, least: u32) -> bool
 }
 
 // The cell of an edge by the same two.
-fn cell_by(duv: u32, m: u32) -> u16
+#[tactic(auto, unfolding(crate::specs::Rows::cell_by))]
+fn cell_by(duv: u32, least: u32) -> u16
     requires { duv ≤ 4161600 }
-    ensures { result ≡ cell_by duv m }
+    ensures { result ≡ cell_by duv least }
 {
-    if is_direct(duv, m) {
+    if is_direct(duv, least) {
         return 0;
     }
-    label(duv, m)
+    label(duv, least)
 }
 
-// The point v leads from now on.
+// The point v leads from now on. Stays: the bounds, as for `between`; and no method of `Row`, whose `sofar` does not hold
+// again until v leads.
 fn spread(distances: &Distances, u: usize, v: usize, lead: &mut [u32; 128])
     requires { (u < 128) × (v < 128) × (length lead.old ≡ 128) }
     ensures { Spread (far distances.now.cells) u v lead.old lead.new }
@@ -55,8 +59,8 @@ fn spread(distances: &Distances, u: usize, v: usize, lead: &mut [u32; 128])
 }
 
 // The work of row u: the keys of the ids that wait for a cell, and for each id the least distance to it from a point that leads towards it.
-// Each is an array of its own, so that the least key and the least distances are had from wide registers, and both stand first, where such reads
-// are aligned: with them last the build takes 1.04 times as long.
+// Stays: two arrays and no array of pairs. `first_key` reads all of the one and `spread` all of the other, each with wide registers, and in pairs every
+// second number of such a read would be of no use.
 #[derive(Drop)]
 struct Row<'a> {
     left: [u32; 128],
@@ -68,7 +72,7 @@ struct Row<'a> {
 }
 
 impl<'a> Row<'a> {
-    // All ids but u wait, and none leads.
+    // All ids but u wait, and none leads. Stays: the bound on u, which the row then keeps.
     fn new(distances: &'a Distances, u: usize) -> Row<'a>
         requires { u < distances.now.n }
         ensures same_row { (result.distances.now ≡ distances.now) × (result.u ≡ u) }
@@ -76,6 +80,7 @@ impl<'a> Row<'a> {
     {
         let mut left = [TOP; 128];
         for v in 0..distances.n {
+            // Loses nothing: v is below 128, and the library has no `u32::from` of a usize.
             left[v] = distances.between(u, v) * 128 + v as u32;
         }
         left[u] = TOP;
@@ -87,7 +92,7 @@ impl<'a> Row<'a> {
         }
     }
 
-    // The first key of those that wait; TOP where none does. As an Option, asked by a `while let`, it takes the build from 1.08 to 1.16 ms.
+    // The first key of those that wait; TOP where none does. Stays: no Option. Asked by a `while let`, it made the build 7 % longer.
     fn first_key(&self) -> u32
         ensures { result ≡ lowest self.now.left }
     {
@@ -103,8 +108,8 @@ impl<'a> Row<'a> {
         ensures cells_after { cells.new
             ≡ set cells.old (key % 128) (cell (far self.old.distances.now.cells) self.old.distances.now.n self.old.u (key % 128)) }
     {
-        let v = (key % 128) as usize;
-        let duv = key / 128;
+        let v = usize::from(id_of(key));
+        let duv = distance_of(key);
         let least = self.lead[v];
         self.left[v] = TOP;
         cells[v] = cell_by(duv, least);
@@ -126,7 +131,7 @@ impl<'a> Row<'a> {
     }
 }
 
-// Row u, into its n cells.
+// Row u, into its n cells. Stays: the bound on u, as for `Row::new`, and the length, since the cells are a part of the table.
 fn write_row(distances: &Distances, u: usize, cells: &mut [u16])
     requires { (u < distances.now.n) × (length cells.old ≡ distances.now.n) }
     ensures { RowOf (far distances.now.cells) distances.now.n u cells.new }
@@ -136,7 +141,7 @@ fn write_row(distances: &Distances, u: usize, cells: &mut [u16])
     row.settle_all(cells);
 }
 
-// The parts by index: of what chunks_exact_mut lends, the library says nothing once it is written.
+// Stays: the parts by index. Of what chunks_exact_mut lends, the library says nothing once it is written.
 pub(crate) fn write_rows(distances: &Distances, table: &mut [u16])
     requires { length table.old ≡ distances.now.n * distances.now.n }
     ensures { table.new ≡ table_of (far distances.now.cells) distances.now.n }

@@ -76,15 +76,19 @@ module _ (n : ℕ) (D : ℕ → ℕ) (edge : ℕ → ℕ → Bool) (u : ℕ) whe
       stays : (x : ℕ) → first (keyed D) n (edge u) ≡ some x → step_to n D edge u ≡ none
       stays x f = let k = key_some x f in step_some x f ∙ rw (le-ltb (D x) (D u) (omega arith))
 
-  pub key_moves : n ≤ 128 → step_key < D u * 128 → (step_to n D edge u ≡ some (step_key % 128)) × (D (step_key % 128) ≡ step_key / 128)
+  -- the least key is that of the id that the step moves to
+  abbrev Found : ℕ → Type 0
+  Found id = (step_to n D edge u ≡ some id) × (id < n) × (step_key / 128 ≡ D id)
+
+  pub key_moves : n ≤ 128 → step_key < D u * 128 → Found (step_key % 128)
   key_moves few h =
       ⊎_elim
       (λ f. absurd (lt_irrefl (D u * 128) (omega (arith, key_none f))))
       (λ f. moves f.0 f.1)
       (first_cases (keyed D) n (edge u))
     where
-      moves : (x : ℕ) → first (keyed D) n (edge u) ≡ some x → (step_to n D edge u ≡ some (step_key % 128)) × (D (step_key % 128) ≡ step_key / 128)
+      moves : (x : ℕ) → first (keyed D) n (edge u) ≡ some x → Found (step_key % 128)
       moves x f =
           let k = key_some x f in
           let id : step_key % 128 ≡ x = omega arith in
-          (rw id (step_some x f ∙ rw (lt-ltb (D x) (D u) (omega arith))), rw id (omega arith))
+          rw id (step_some x f ∙ rw (lt-ltb (D x) (D u) (omega arith)), k.0, omega arith)

@@ -1,9 +1,9 @@
 -- What a step answers and leaves in the record, in each of its four cases. Assumes nothing.
-use Prim.Native.Nat.{ℕ, ◌+◌, ◌*◌, ◌/◌, ◌%◌, ◌≤◌, ◌<◌}
+use Prim.Native.Nat.{ℕ, ◌+◌, ◌≤◌, ◌<◌}
 use native.Mathlib.Nat.{lt_irrefl}
 use native.Mathlib.Numerals.{add-one}
 use native.Mathlib.Omega.{arith}
-use mathlib.Core.Path.{◌≡◌, sym, ap, ◌∙◌}
+use mathlib.Core.Path.{◌≡◌, sym, ◌∙◌}
 use mathlib.Core.Logic.{◌≢◌}
 use mathlib.Core.Option.{Option, none, some}
 use mathlib.Core.List.{List}
@@ -11,33 +11,10 @@ use lib.IntN.{ℤ}
 use lib.ListN.{length}
 use borrow.Author.Tests.{le-leb, lt-leb}
 use Rattle.rules.specs.Outcome.{Outcome, refused, gives}
-use Rattle.rules.specs.Points.{away}
-use Rattle.rules.specs.Order.{keyed}
-use Rattle.rules.specs.Labels.{edge_in}
 use Rattle.rules.specs.Refusals.{walk_refusal, step_refusal}
 use Rattle.rules.specs.Walk.{Walk, Step, moved, at_end, due, stepped, step_from}
 use Rattle.rules.specs.Entries.{goes_to, step_refused, step_answer, record_after}
 use Rattle.laws.proofs.Refusals.{else_none, else_some, outcome-gives, outcome-refused, after_new, after_old}
-use Rattle.walk.specs.Least.{least}
-use Rattle.walk.proofs.Least.{key_stays, key_moves}
-
--- ---- where a step from u moves to, by the key that is found
-
-module _ (n d : ℕ) (vectors : List ℤ) (table : List ℕ) (query : List ℤ) (threshold u distance key : ℕ) (few : n ≤ 128)
-    (far : distance ≡ away d vectors query u) (is : key ≡ least (keyed (away d vectors query)) (edge_in table n threshold u) (distance * 128) n) where
-  found : key ≡ least (keyed (away d vectors query)) (edge_in table n threshold u) (away d vectors query u * 128) n
-  found = is ∙ ap (λ (x : ℕ). least (keyed (away d vectors query)) (edge_in table n threshold u) (x * 128) n) far
-
-  pub goes_nowhere : distance ≤ key / 128 → goes_to n d vectors table query threshold u ≡ none
-  unfolding goes_to
-  goes_nowhere h = key_stays n (away d vectors query) (edge_in table n threshold) u few (omega (arith, found, far))
-
-  pub goes_there : (id : ℕ) → id ≡ key % 128 → key / 128 < distance →
-      (goes_to n d vectors table query threshold u ≡ some id) × (away d vectors query id ≡ key / 128)
-  unfolding goes_to
-  goes_there id e h = rw (e, found) (key_moves n (away d vectors query) (edge_in table n threshold) u few (omega (arith, found, far)))
-
--- ---- what a step answers and leaves
 
 module _ (n d : ℕ) (vectors : List ℤ) (table : List ℕ) (query : List ℤ) (threshold : ℕ) (w : Walk) where
   abbrev refusal : ℕ
@@ -63,9 +40,10 @@ module _ (n d : ℕ) (vectors : List ℤ) (table : List ℕ) (query : List ℤ) 
   unfolding step_answer record_after
   takes e = (sym (outcome-gives e _), sym (after_new e _ _))
 
-  pub step_refused_lem : (r : ℕ) → r ≢ 0 → r ≡ refusal → Steps (refused r) w
+  -- what refuses a walk refuses the step
+  pub step_stops : (r : ℕ) → r ≢ 0 → r ≡ refusal → Steps (refused r) w
   unfolding step_refused step_refusal
-  step_refused_lem r d e = refuses r d (else_some (λ z. d (e ∙ z)) _ ∙ sym e)
+  step_stops r d e = refuses r d (else_some (λ z. d (e ∙ z)) _ ∙ sym e)
 
   -- the number where the walk is not refused, by where the step goes
   pub number_end : refusal ≡ 0 → to ≡ none → number ≡ 0

@@ -1,14 +1,11 @@
 -- `search::search` meets its contract. Assumes nothing.
 use Prim.Native.Nat.{min}
-use mathlib.Core.Path.{◌≡◌, ap, ap₂, ◌∙◌}
+use mathlib.Core.Path.{◌≡◌, ap₂, ◌∙◌}
 use native.Mathlib.Omega.{arith}
 use lib.ListN.{length}
 use Rattle.std.proofs.lemmas.Result.{err_from_is_err_and}
 use Rattle.space.proofs.Told.{number-some}
-use lib.ListN.{replicate}
-use Rattle.search.specs.declared.see.Mark.TheVariants.{Unseen}
 use Rattle.search.specs.Answer.{asked}
-use Rattle.search.specs.Rest.{reached}
 use Rattle.search.proofs.Starting.{started}
 use Rattle.search.proofs.Seeing.{few}
 use Rattle.search.proofs.Finish.{refusing-first, refusing-next, explored_as, giving}
@@ -33,21 +30,18 @@ overflow_cast-ask c =
 
 pub explore-walked-requires-clause-fresh : goal.explore-walked-requires-clause-fresh
 explore-walked-requires-clause-fresh c =
-    let first : c.see.new.self.marks ≡ reached c.args.ask.now.start (replicate 128 Unseen) =
-    c.see.ensures.marks ∙ ap (reached c.args.ask.now.start) c.new-front.ensures.marks in
-    (started _ _ (rw c.from.ensures at c.in_ok-question.ensures.start) (rw c.in_ok-question.ensures.set at (few c.in_ok-question.question)) _ first).fresh
+    let of = c.in_ok-question.ensures in
+    (started (rw c.from.ensures at of.start) (rw of.set at (few c.in_ok-question.question)) c.new-front.ensures.marks c.see.ensures.marks).fresh
 
 pub returns : goal.returns
 returns c =
     let ask = c.args.ask.now in
-    let first : c.see.new.self.marks ≡ reached ask.start (replicate 128 Unseen) =
-    c.see.ensures.marks ∙ ap (reached ask.start) c.new-front.ensures.marks in
-    let only = (started _ _ (rw c.from.ensures at c.in_ok-question.ensures.start) (rw c.in_ok-question.ensures.set at (few c.in_ok-question.question)) _ first).only in
     let of = c.in_ok-question.ensures in
+    let first = started (rw c.from.ensures at of.start) (rw of.set at (few c.in_ok-question.question)) c.new-front.ensures.marks c.see.ensures.marks in
     let explored = explored_as c.in_ok-question.question ask.question of.set of.table of.query of.threshold
     (rw (c.see.ensures.asked, c.new-front.ensures.asked, c.from-2.ensures) at c.explore-walked.ensures) in
     let line = c.explore-walked.new.self.line.items in
     let found : c.min-found.result ≡ min ask.k (length line) = c.min-found.ensures ∙ ap₂ min c.from-3.ensures c.len-seen.ensures.value in
-    let x = giving (asked ask) _ _ _ (rw c.from.ensures at of.refusal) c.in_ok-rest_refusal.ensures only explored found
+    let x = giving (asked ask) _ _ _ (rw c.from.ensures at of.refusal) c.in_ok-rest_refusal.ensures first.only explored found
     (rw c.deref.ensures.0 at c.answer.ensures.ids) (rw c.deref.ensures.0 at c.answer.ensures.distances) in
     record { answer = rw c.len-seen.ensures.value x.counts; ids = x.ids_hold; distances = x.distances_hold; trail = x.trail-holds }

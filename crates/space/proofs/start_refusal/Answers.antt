@@ -2,16 +2,13 @@
 use mathlib.Core.Path.{refl, sym, ◌∙◌}
 use native.Mathlib.Omega.{arith}
 use borrow.Author.Tests.{eq-eqb, ne_eqb, le-leb, lt-leb}
-use Rattle.std.proofs.lemmas.Result.{err_from_is_err_and}
 use Rattle.laws.proofs.Refusals.{set_ok, small-square}
-use Rattle.laws.proofs.RefusalOrder.{stops, passes, start_order}
-use Rattle.space.proofs.Told.{number-some}
+use Rattle.laws.proofs.RefusalOrder.{passes, start_order}
+use Rattle.space.proofs.Told.{exits}
 use Rattle.space.proofs.start_refusal.Goals as goal
 
 pub returns-in_err-set_refusal : goal.returns-in_err-set_refusal
-returns-in_err-set_refusal c =
-    let p = err_from_is_err_and c.from_residual.result c.from_residual.ensures.1 in
-    rw (p.1, p.2) (stops _ (start_order _ _ _ _ _ _) (c.in_err-set_refusal.ensures) (number-some _))
+returns-in_err-set_refusal c = exits c.from_residual.result _ c.from_residual.ensures.1 _ (start_order _ _ _ _ _ _) c.in_err-set_refusal.ensures
 
 pub overflow_mul-n : goal.overflow_mul-n
 overflow_mul-n c =

@@ -2,16 +2,14 @@
 use mathlib.Core.Path.{refl, sym, ◌∙◌}
 use native.Mathlib.Omega.{arith}
 use borrow.Author.Tests.{eq-eqb, ne_eqb}
-use Rattle.std.proofs.lemmas.Result.{err_from_is_err_and}
 use Rattle.laws.proofs.Refusals.{set_ok, small-square}
 use Rattle.laws.proofs.RefusalOrder.{passes, build_order}
-use Rattle.space.proofs.Told.{stopped}
+use Rattle.space.proofs.Told.{exits}
 use Rattle.table.proofs.check.Goals as goal
 
 pub returns-in_err-points-clause-refusal : goal.returns-in_err-points-clause-refusal
 returns-in_err-points-clause-refusal c =
-    let p = err_from_is_err_and c.from_residual.result c.from_residual.ensures.1 in
-    rw (p.1, p.2) (stopped _ _ (build_order _ _ _ _) c.in_err-points.ensures.refusal)
+    exits c.from_residual.result _ c.from_residual.ensures.1 _ (build_order _ _ _ _) c.in_err-points.ensures.refusal
 
 pub overflow_mul-set : goal.overflow_mul-set
 overflow_mul-set c =

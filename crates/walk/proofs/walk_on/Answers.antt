@@ -1,17 +1,24 @@
+use mathlib.Core.Path.{refl, ◌∙◌}
 use native.Mathlib.Omega.{arith}
-use Rattle.laws.proofs.Refusals.{set_ok}
+use Rattle.walk.specs.Asked.{question_of}
+use Rattle.walk.proofs.Standing.{few}
 use Rattle.walk.proofs.Way.{way_starts, way_moves, way_spare, way_ends}
 use Rattle.walk.proofs.walk_on.Goals as goal
 
-pub loop-near-init : goal.loop-near-init
-loop-near-init c = way_starts _ _ _ c.requires (rw c.from.ensures at c.away.ensures.value) c.away.ensures.bounded
+pub loop-next-init : goal.loop-next-init
+loop-next-init c = (refl, way_starts (question_of c.args.start.asked) _ c.args.start.inside)
 
-pub overflow_add-end : goal.overflow_add-end
-overflow_add-end c =
-    omega (arith, way_spare _ _ c.loop-near.invariant c.in-Some.ensures.moves, (set_ok _ _ _ c.args.asked.now.points.given).few-points)
+pub overflow_add-moves : goal.overflow_add-moves
+overflow_add-moves c =
+    let inv = c.loop-next.invariant in
+    record { fits = omega (arith, way_spare (question_of c.args.start.asked) _ inv.1 (rw inv.0 at c.in-Some.ensures.moves), few c.args.start.asked) }
 
-pub loop-near-preserved : goal.loop-near-preserved
-loop-near-preserved c = way_moves _ _ c.loop-near.invariant c.in-Some.ensures.moves c.in-Some.ensures.far c.in-Some.ensures.nearer
+pub loop-next-preserved : goal.loop-next-preserved
+loop-next-preserved c =
+    let inv = c.loop-next.invariant in
+    (c.in-Some.ensures.same ∙ inv.0, way_moves (question_of c.args.start.asked) _ inv.1 (rw inv.0 at c.in-Some.ensures.moves))
 
 pub returns : goal.returns
-returns c = way_ends _ _ c.loop-near.invariant c.in_default.ensures.moves
+returns c =
+    let inv = c.loop-next.invariant in
+    way_ends (question_of c.args.start.asked) _ inv.1 (rw inv.0 at c.loop-next.stand.far) (rw inv.0 at c.in_default.ensures.moves)

@@ -7,4 +7,4 @@ use Rattle.report.proofs.whole.Held.asks_lines.Given as goal
 
 abbrev pub invariant-loop-number : goal.invariant-loop-number
 invariant-loop-number l =
-    (l.number ≤ l.self.head.asks) × Paged l.at (asks_lines l.self.sheet.now l.self.table.now l.number) l.initial.page l.page (Ok l.end)
+    (l.number ≤ l.self.asks) × Paged l.at (asks_lines l.self.sheet.now l.self.table.now l.number) l.initial.page l.page (Ok l.end)

@@ -1,47 +1,38 @@
 -- `search::Front::explore` meets its contract. Assumes nothing.
-use mathlib.Core.Path.{refl, sym, ◌∙◌}
+use mathlib.Core.Path.{refl, ap, ◌∙◌}
 use native.Mathlib.Omega.{arith}
-use Rattle.search.proofs.Seeing.{few}
+use lib.ListN.{set}
 use Rattle.search.proofs.Rounds.{round_start, next-waits, room, round_step, round_end}
 use Rattle.search.proofs.see.Front.explore.Goals as goal
 
 pub loop-from-init : goal.loop-from-init
-loop-from-init c =
-    let self = c.args.self.now in
-    (round_start _ _ _ _ _ _ _ (few self.asked) c.requires.fresh self.lined, refl)
+loop-from-init c = (round_start _ _ _ _ c.requires.fresh c.args.self.now.lined, refl)
 
 pub bounds-trail-walked : goal.bounds-trail-walked
 bounds-trail-walked c =
-    let self = c.args.self.now in
     let inv = c.loop-from.invariant in
-    let go = sym c.goes_on.ensures ∙ c.loop-from-test.true in
-    omega (arith, room _ _ _ _ _ _ _ (few self.asked) inv.0 (rw inv.1 at c.loop-from.self.lined) go, inv.0.tsize, c.requires.room)
+    let next = room _ _ _ _ inv.0 c.loop-from.self.lined c.goes_on.ensures c.loop-from-test.true in
+    omega (arith, next, inv.0.tsize, rw (← inv.1) at c.requires.room)
 
 pub visit-requires : goal.visit-requires
 visit-requires c =
-    let self = c.args.self.now in
-    let inv = c.loop-from.invariant in
-    let go = sym c.goes_on.ensures ∙ c.loop-from-test.true in
-    rw (c.from.ensures, c.deref.ensures.0, inv.1) (next-waits _ _ _ _ _ _ _ (few self.asked) inv.0 (rw inv.1 at c.loop-from.self.lined) go)
+    let x = rw c.deref.ensures.0 at c.id_of-x.ensures in
+    rw (c.from.ensures, x) (next-waits _ _ _ _ c.loop-from.invariant.0 c.loop-from.self.lined c.goes_on.ensures c.loop-from-test.true)
 
 pub loop-from-smaller : goal.loop-from-smaller
 loop-from-smaller c =
-    let self = c.args.self.now in
-    let inv = c.loop-from.invariant in
-    let go = sym c.goes_on.ensures ∙ c.loop-from-test.true in
-    rw (c.visit.ensures.asked, inv.1) (omega (arith, room _ _ _ _ _ _ _ (few self.asked) inv.0 (rw inv.1 at c.loop-from.self.lined) go))
+    let next = room _ _ _ _ c.loop-from.invariant.0 c.loop-from.self.lined c.goes_on.ensures c.loop-from-test.true in
+    rw c.visit.ensures.asked (omega (arith, next))
 
 pub loop-from-preserved : goal.loop-from-preserved
 loop-from-preserved c =
-    let self = c.args.self.now in
     let inv = c.loop-from.invariant in
-    let go = sym c.goes_on.ensures ∙ c.loop-from-test.true in
-    let step = round_step _ _ _ _ _ _ _ (few self.asked) inv.0 (rw inv.1 at c.loop-from.self.lined) go c.requires.room
-    (rw (c.from.ensures, c.deref.ensures.0, inv.1) at c.visit.ensures.visited) refl in
-    (rw c.deref.ensures.0 step, c.visit.ensures.asked ∙ inv.1)
+    let x = rw c.deref.ensures.0 at c.id_of-x.ensures in
+    let step = round_step _ _ _ _ inv.0 c.loop-from.self.lined c.goes_on.ensures c.loop-from-test.true (rw (← inv.1) at c.requires.room)
+    (rw (c.from.ensures, x) at c.visit.ensures.visited) (ap (set _ _) x) in
+    (rw c.visit.ensures.asked step, c.visit.ensures.asked ∙ inv.1)
 
 pub returns : goal.returns
 returns c =
-    let self = c.args.self.now in
     let inv = c.loop-from.invariant in
-    round_end _ _ _ _ _ _ _ (few self.asked) inv.0 (rw inv.1 at c.loop-from.self.lined) (sym c.goes_on.ensures ∙ c.loop-from-test.false)
+    rw inv.1 at (round_end _ _ _ _ inv.0 c.loop-from.self.lined c.goes_on.ensures c.loop-from-test.false)

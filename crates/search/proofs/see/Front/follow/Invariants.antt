@@ -5,4 +5,4 @@ use Rattle.search.proofs.see.Front.follow.Given as goal
 
 abbrev pub invariant-loop-i : goal.invariant-loop-i
 invariant-loop-i l =
-    Following l.row l.threshold l.initial.self.marks l.self.marks l.self.rest l.i l.self.left × (l.self.asked ≡ l.initial.self.asked)
+    Following l.row l.threshold l.initial.self.marks l.self.marks l.self.rest l.i l.self.rest_length × (l.self.asked ≡ l.initial.self.asked)

@@ -1,15 +1,12 @@
 -- `space::Set::point_refusal` meets its contract: the set's refusal first, then the id's. Assumes nothing.
 use mathlib.Core.Path.{refl, sym, ◌∙◌}
 use borrow.Author.Tests.{le-leb, lt-leb}
-use Rattle.std.proofs.lemmas.Result.{err_from_is_err_and}
 use Rattle.laws.proofs.RefusalOrder.{passes, point_order}
-use Rattle.space.proofs.Told.{stopped}
+use Rattle.space.proofs.Told.{exits}
 use Rattle.space.proofs.set.Set.point_refusal.Goals as goal
 
 pub returns-in_err-check : goal.returns-in_err-check
-returns-in_err-check c =
-    let p = err_from_is_err_and c.from_residual.result c.from_residual.ensures.1 in
-    rw (p.1, p.2) (stopped _ _ (point_order _ _ _ _) c.in_err-check.ensures.refusal)
+returns-in_err-check c = exits c.from_residual.result _ c.from_residual.ensures.1 _ (point_order _ _ _ _) c.in_err-check.ensures.refusal
 
 pub returns-then-self-id : goal.returns-then-self-id
 returns-then-self-id c =

@@ -1,11 +1,12 @@
 use mathlib.Core.Path.{◌∙◌}
+use Rattle.table.proofs.Settled.{first_of}
 use Rattle.table.proofs.Turns.{written_more, waiting-less, row_end}
 use Rattle.table.proofs.rows.Row.settle_all.Goals as goal
 
 pub loop-key-smaller : goal.loop-key-smaller
 loop-key-smaller c =
     let s = c.loop-key.self in
-    waiting-less s.distances.now.both_ways s.u_in s.sofar c.loop-key.invariant.next c.loop-key-test.true c.settle.ensures.left_after
+    waiting-less (first_of s (c.loop-key.invariant.next, c.loop-key-test.true)) c.settle.ensures.left_after
 
 pub loop-key-preserved : goal.loop-key-preserved
 loop-key-preserved c =
@@ -18,7 +19,7 @@ loop-key-preserved c =
       written =
           rw
           (e.same_row.0, e.same_row.1)
-          (written_more s.distances.now.both_ways s.u_in s.sofar i.next c.loop-key-test.true e.left_after i.written e.cells_after);
+          (written_more (first_of s (i.next, c.loop-key-test.true)) e.left_after i.written e.cells_after);
       next = c.first_key-key-in-loop-key.ensures;
     }
 

@@ -1,6 +1,6 @@
 use mathlib.Core.Path.{sym, ◌∙◌}
 use Rattle.walk.proofs.Least.{least-none_yet, least_more}
-use Rattle.walk.proofs.nearer.least_key.Goals as goal
+use Rattle.walk.proofs.stand.Stand.least_key.Goals as goal
 
 pub loop-id-init : goal.loop-id-init
 loop-id-init c = sym (least-none_yet _ _ _)

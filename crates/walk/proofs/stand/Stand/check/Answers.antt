@@ -1,16 +1,14 @@
 -- The refusals of what a walk starts from, then the threshold's.
 use mathlib.Core.Path.{refl, sym, ◌∙◌}
 use borrow.Author.Tests.{lt-ltb, le-ltb}
-use Rattle.std.proofs.lemmas.Result.{err_from_is_err_and}
 use Rattle.laws.proofs.RefusalOrder.{passes, walk_order}
-use Rattle.space.proofs.Told.{stopped}
-use Rattle.walk.proofs.check.Goals as goal
+use Rattle.space.proofs.Told.{exits}
+use Rattle.walk.proofs.stand.Stand.check.Goals as goal
 
 pub returns-in_err-asked-clause-refusal : goal.returns-in_err-asked-clause-refusal
 returns-in_err-asked-clause-refusal c =
-    let p = err_from_is_err_and c.from_residual.result c.from_residual.ensures.1 in
-    let e = rw c.from.ensures at c.in_err-asked.ensures.refusal in
-    rw (p.1, p.2) (stopped _ _ (walk_order _ _ _ _ _ _ c.args.question.now.threshold) e)
+    exits c.from_residual.result _ c.from_residual.ensures.1 _ (walk_order _ _ _ _ _ _ c.args.question.now.threshold)
+    (rw c.from.ensures at c.in_err-asked.ensures.refusal)
 
 pub returns-then-question-gt32767-clause-refusal : goal.returns-then-question-gt32767-clause-refusal
 returns-then-question-gt32767-clause-refusal c =
