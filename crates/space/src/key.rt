@@ -6,6 +6,7 @@ ghost use Rattle.std.specs.Prelude.{◌≡◌, ◌/◌, ◌%◌};
 pub fn id_of(key: u32) -> u16
     ensures { result ≡ key % 128 }
 {
+    // The rest is below 128, so that the cast loses nothing.
     (key % 128) as u16
 }
 

@@ -72,7 +72,8 @@ pub fn smaller(x: usize, y: usize) -> usize
     x.min(y)
 }
 
-// D of the first 64 pairs of coordinates; the pairs end with the shorter slice.
+// D of the first 64 pairs of coordinates; the pairs end with the shorter slice. Its bound stays a clause, here and where D is handed on: D is a number of 32
+// bits at the border, for C too.
 pub fn distance(a: &[i8], b: &[i8]) -> u32
     ensures value { result ≡ dist (take 64 a.now) (take 64 b.now) }
     ensures bounded { result ≤ 4161600 }
