@@ -24,7 +24,7 @@ pub fn is_outside(low: usize, high: usize, x: usize) -> bool
     !(low..=high).contains(&x)
 }
 
-// Refusals 1, 2 and 3, with which every entry that is lent a set begins.
+// Refusals 1, 2 and 3, with which every entry that is lent a set begins. Three numbers stay: `set_refusal_fixed` is about all lengths.
 pub fn set_refusal(n: usize, d: usize, vectors: usize) -> Result<(), Refusal>
     ensures { number_in result ≡ set_refusal n d vectors }
 {
