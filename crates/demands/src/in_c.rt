@@ -1,4 +1,5 @@
-// On plain numbers, as C calls them: the functions of `cabi`, which `cabi_c` hands to C, by the records of specs/CallsInC and, where they promise what an entry promises, of specs/Calls.
+// On plain numbers, as C calls them: the functions of `cabi`, which `cabi_c` hands to C, by the records of specs/CallsInC and, where they promise what an entry
+// promises, of specs/Calls. Each function of `cabi_c` names the same record once more, as its clause `call`, since no theorem can stand on an archive.
 ghost use Rattle.rules.specs.Sheet.{contents};
 ghost use Rattle.rules.specs.Entries.{ask};
 ghost use Rattle.walk.specs.Answers.{at};

@@ -59,7 +59,7 @@ pub fn place(bytes: &[u8], output: &mut [u8], at: usize) -> Result<usize, TooSho
     placed(&Bytes { bytes }, output, at)
 }
 
-// set N D ASKS
+// set N D ASKS: three numbers, since the sheet's header holds a fourth, and stands beside this crate.
 pub fn set_line(
     n: usize,
     d: usize,
@@ -123,7 +123,7 @@ pub fn trail_line(ids: &[u16], output: &mut [u8], at: usize) -> Result<usize, To
     placed(&Trail { ids }, output, at)
 }
 
-// The three lines of an ask that is answered, all or none.
+// The three lines of an ask that is answered, all or none; ids and distances are two slices, as at `near_line`.
 pub fn answer_lines(
     counts: Found,
     ids: &[u16],

@@ -13,7 +13,7 @@ use lines::{Found, TooShort};
 use search::Ask;
 
 // The lines of an ask, whose number is that of its place in a sheet. The buffers of the search have 128 cells, as many as a set has points and as a width
-// allows, so that none is too short.
+// allows, so that none is too short. They stay three, as the search is lent them, and output and place stay two, as in `lines`.
 pub fn ask_lines(
     number: u16,
     ask: &Ask<'_>,
@@ -43,7 +43,7 @@ pub fn ask_lines(
     }
 }
 
-// A blank page with room for the lines of any sheet.
+// A blank page with room for the lines of any sheet. It stays an array: nothing in the library allocates.
 pub fn page() -> [u8; 270000]
     ensures result_len { length result ≡ 270000 }
     ensures blank { result ≡ replicate 270000 0 }

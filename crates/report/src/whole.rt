@@ -29,7 +29,7 @@ impl Held<'_> {
     {
         let mut cells = [0i8; 64];
         let query = &mut cells[..self.set.d];
-        // It is not refused: there is such an ask, and the query has d cells.
+        // It is not refused: there is such an ask, and the query has d cells. So any error serves, and this is the one at hand.
         let Ok(numbers) = sheet::ask(self.sheet, number, query) else {
             return Err(TooShort);
         };

@@ -8,7 +8,7 @@ use crate::see::Front;
 
 impl Front<'_> {
     // The point at place i of the list has an edge: it becomes seen, unless it is, and leaves the list, where the last one takes its place.
-    // Stays: the clause `asked`, as at `see`.
+    // Stays: the clause `asked`, as at `see`, and the exchange by hand, since the list is an array (figures there).
     fn reach(&mut self, i: usize)
         requires { i < self.old.rest_length }
         ensures asked { self.new.asked ≡ self.old.asked }

@@ -34,7 +34,7 @@ pub struct Counts {
 }
 
 impl Ask<'_> {
-    // Refusals 7 to 10, by the lengths of the buffers.
+    // Refusals 7 to 10, by the three lengths of the buffers, as `refuse10` speaks of them.
     fn rest_refusal(&self, ids: usize, distances: usize, trail: usize) -> Result<(), Refusal>
         ensures { number_in result ≡ first_of (refuse7 self.now.width ∷ refuse8 self.now.width self.now.k ∷ refuse9 self.now.question.threshold
             ∷ refuse10 self.now.question.set.n self.now.k ids distances trail ∷ []) }

@@ -6,6 +6,7 @@ ghost use Rattle.search.specs.Seen.{key_of, Lined};
 use crate::line;
 use arrayvec::ArrayVec;
 use space::Asked;
+use std::array;
 
 // A point is not seen, or it is seen and waits to go on the trail, or it is on it.
 #[derive(Clone, Copy, PartialEq, Eq)]
@@ -34,11 +35,8 @@ pub(crate) struct Front<'a> {
 fn every_id() -> [u8; 128]
     ensures { Numbered 128 result }
 {
-    let mut ids = [0u8; 128];
-    for id in 0..128u8 {
-        ids[usize::from(id)] = id;
-    }
-    ids
+    // An id is below 128, so that the cast loses nothing.
+    array::from_fn(|id| id as u8)
 }
 
 impl<'a> Front<'a> {
@@ -58,7 +56,8 @@ impl<'a> Front<'a> {
     }
 
     // A point becomes seen, unless it is: its key goes into the line.
-    // Stays: the clause `asked`; the ghost fields speak of the question, so each method has to say that it is the same.
+    // Stays: the clause `asked`; the ghost fields speak of the question, so each method has to say that it is the same. And the bound on the id: a type for it
+    // would have to say of which set.
     pub(crate) fn see(&mut self, id: u8)
         requires { id < self.old.asked.points.set.n }
         ensures asked { self.new.asked ≡ self.old.asked }

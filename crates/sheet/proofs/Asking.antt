@@ -2,15 +2,16 @@
 use Rattle.std.proofs.Common.{◌≡◌, ℕ, zero, suc, ◌+◌, ◌*◌, ◌/◌, ◌<◌, true, Bool, List, [], ◌∷◌, ◌++◌, length, ℤ, refl, sym, ap, ◌∙◌, arith, length-append, append_assoc}
 use lib.Seq.{take_at, drop_at}
 use Rattle.rules.specs.Bits.{all_fit, value_bits}
-use Rattle.rules.specs.Sheet.{number_bits, ask_bits}
+use Rattle.rules.specs.Sheet.{Contents, number_bits, ask_bits}
 use Rattle.rules.specs.Refusals.{ask_refusal}
 use Rattle.laws.proofs.Values.{length-value_bits, fit_take, fit_drop}
 use Rattle.laws.proofs.Refusals.{else_both}
 use Rattle.laws.proofs.Numbers.{length-number_bits}
+use Rattle.laws.proofs.Writable.{Writable}
 use Rattle.laws.proofs.Asks.{ask_bits-suc}
 use Rattle.sheet.specs.declared.put.Pen.{Pen}
 use Rattle.sheet.specs.Put.{put_bits}
-use Rattle.sheet.specs.Pen.{Puts, Room}
+use Rattle.sheet.specs.Pen.{Puts, Room, asks_in}
 use Rattle.sheet.proofs.Putting.{put_bits-append}
 use Rattle.sheet.proofs.Refusing.{rows_refusal, ask_first}
 
@@ -49,6 +50,18 @@ pub record Asks (d c : ℕ) (a b : Pen) (all : List Bool) (ns : List ℕ) (qs : 
   pub given : rows_refusal ns ≡ 0
   pub fit : all_fit c qs ≡ true
   pub left : Left a b all (ask_bits d c (length ns / 4) ns qs)
+
+-- all of them are left
+pub asks_begin : (k : Contents) (p : Pen) → Writable k → Asks k.d k.c p p (asks_in k) k.numbers k.queries
+asks_begin k p w =
+    let n : length k.numbers / 4 ≡ k.asks = omega (arith, w.numbers_are) in
+    record {
+      rows = omega (arith, w.numbers_are);
+      queries = rw n w.queries_are;
+      given = rw n w.asks_fit;
+      fit = w.queries_fit;
+      left = rw n (record { same = refl; long = refl; next = refl; out = refl });
+    }
 
 pub asks_end : (d c : ℕ) (a b : Pen) (all : List Bool) (ns : List ℕ) (qs : List ℤ) → Asks d c a b all ns qs → length ns / 4 ≡ 0 → Puts a b all
 unfolding ask_bits

@@ -1,5 +1,9 @@
 -- The writer's refusals: ask by ask, and what is known where there is none. Assumes nothing.
-use Rattle.std.proofs.Common.{◌≡◌, ℕ, suc, ◌/◌, ◌<◌, true, List, [], ◌∷◌, ◌++◌, length, sym, ap, ◌∙◌, arith}
+use Rattle.std.proofs.Common.{◌≡◌, ℕ, zero, suc, ◌/◌, ◌<◌, true, List, [], ◌∷◌, ◌++◌, ◌*◌, ◌+◌, length, take, drop, get_or, refl, sym, ap, ◌∙◌, arith}
+use Rattle.std.specs.List.{concat}
+use Rattle.std.specs.Simd.{first_chunks}
+use Rattle.std.proofs.lemmas.List.{take-append-drop, length-take-le, length-drop}
+use lib.Seq.{drop-drop}
 use Rattle.rules.specs.Bits.{all_fit}
 use Rattle.rules.specs.Sheet.{Contents}
 use Rattle.rules.specs.Outcome.{or_else}
@@ -42,6 +46,57 @@ module _ (left row rest : List ℕ) {all : ℕ} (so_far : rows_refusal left ≡ 
 pub asks_done : (left : List ℕ) {all : ℕ} → rows_refusal left ≡ all → length left < 4 → 0 ≡ all
 unfolding asks_refusal
 asks_done left so_far few = let e : length left / 4 ≡ 0 = omega arith in rw (e, asks_refusal) at so_far
+
+-- ---- the rows that the numbers are cut into
+
+-- a row, and where it begins
+row_at : (k : ℕ) (ns : List ℕ) (i : ℕ) (d : List ℕ) → i < k → get_or (first_chunks 4 k ns) i d ≡ take 4 (drop (i * 4) ns)
+row_at zero ns i d h = absurd (omega arith)
+row_at (suc k) ns zero d h = refl
+row_at (suc k) ns (suc i) d h =
+    let n : 4 + i * 4 ≡ suc i * 4 = omega arith in
+    row_at k (drop 4 ns) i d (omega arith) ∙ ap (take 4) (drop-drop (i * 4) 4 ns ∙ ap (λ (j : ℕ). drop j ns) n)
+
+-- joined, the rows are the numbers again, where none are left over
+pub rows_joined : (k : ℕ) (ns : List ℕ) → length ns ≡ 4 * k → concat (first_chunks 4 k ns) ≡ ns
+rows_joined zero [] e = refl
+rows_joined zero (n ∷ ns) e = absurd (omega arith)
+rows_joined (suc k) ns e =
+    let l : length (drop 4 ns) ≡ 4 * k = rw length-drop (omega arith) in
+    ap (λ (r : List ℕ). take 4 ns ++ r) (rows_joined k (drop 4 ns) l) ∙ take-append-drop 4 ns
+
+pub joined_none : (rows : List (List ℕ)) → length rows ≡ 0 → length (concat rows) / 4 ≡ 0
+joined_none [] e = refl
+joined_none (row ∷ rows) e = absurd (omega arith)
+
+-- each has four numbers
+abbrev pub Fours : List (List ℕ) → Type 0
+Fours [] = Unit
+Fours (row ∷ rows) = (length row ≡ 4) × Fours rows
+
+pub rows_four : (k : ℕ) (ns : List ℕ) → length ns ≡ 4 * k → Fours (first_chunks 4 k ns)
+rows_four zero ns e = tt
+rows_four (suc k) ns e = (length-take-le 4 ns (omega arith), rows_four k (drop 4 ns) (rw length-drop (omega arith)))
+
+-- row i, where the rows before it give no refusal
+module _ (ns : List ℕ) (rows : List (List ℕ)) (i : ℕ) (d : List ℕ) (are : rows ≡ first_chunks 4 (length ns / 4) ns) (here : i < length ns / 4)
+    (so_far : rows_refusal (drop (i * 4) ns) ≡ rows_refusal ns) where
+  abbrev left : List ℕ
+  left = drop (i * 4) ns
+
+  row_is : get_or rows i d ≡ take 4 left
+  row_is = ap (λ (l : List (List ℕ)). get_or l i d) are ∙ row_at _ ns i d here
+
+  four : length (take 4 left) ≡ 4
+  four = length-take-le 4 left (rw length-drop (omega arith))
+
+  pub row_stops : (r : Refusal) → number r ≡ ask_refusal (get_or rows i d) → number r ≡ rows_refusal ns
+  row_stops r e = ask_stops left (take 4 left) (drop 4 left) so_far (sym (take-append-drop 4 left)) four r (e ∙ ap ask_refusal row_is)
+
+  pub row_passes : 0 ≡ ask_refusal (get_or rows i d) → rows_refusal (drop ((i + 1) * 4) ns) ≡ rows_refusal ns
+  row_passes e =
+      let n : i * 4 + 4 ≡ (i + 1) * 4 = omega arith in
+      rw (drop-drop 4 (i * 4) ns, n) at (ask_passes left (take 4 left) (drop 4 left) so_far (sym (take-append-drop 4 left)) four (e ∙ ap ask_refusal row_is))
 
 -- contents whose shape, asks and values give no refusal can be written
 pub accepted : (k : Contents) → 0 ≡ shape_of k → 0 ≡ rows_refusal k.numbers → all_fit k.c k.vectors ≡ true → all_fit k.c k.queries ≡ true → Writable k

@@ -65,19 +65,6 @@ impl Head {
 }
 
 impl Numbers {
-    // The numbers of an ask, as the writer is given them. No `From`: it takes no `requires`, and a row has to have four.
-    fn of(row: &[u16]) -> Numbers
-        requires { length row.now ≡ 4 }
-        ensures { row_of result ≡ row.now }
-    {
-        Numbers {
-            start: row[0],
-            width: row[1],
-            k: row[2],
-            threshold: row[3],
-        }
-    }
-
     // An ask's numbers at a place, which moves past them.
     fn read(place: &mut Place<'_>) -> Numbers
         requires { place.old.next < 2 ^ 20 }
@@ -90,6 +77,20 @@ impl Numbers {
             width: place.take(7) + 1,
             k: place.take(7) + 1,
             threshold: place.take(15),
+        }
+    }
+}
+
+// The numbers of an ask, as the writer is given them.
+impl From<[u16; 4]> for Numbers {
+    ghost from_gives = { λ row numbers. row_of numbers ≡ row };
+
+    fn from([start, width, k, threshold]: [u16; 4]) -> Numbers {
+        Numbers {
+            start,
+            width,
+            k,
+            threshold,
         }
     }
 }

@@ -65,14 +65,13 @@ impl Pen<'_> {
 
     // One ask: its four numbers, then its query.
     #[tactic(auto, unfolding(rules::specs::Refusals::ask_refusal))]
-    fn ask(&mut self, width: Width, row: &[u16], query: &[i8])
-        requires four { length row.now ≡ 4 }
-        requires given { ask_refusal row.now ≡ 0 }
+    fn ask(&mut self, width: Width, row: [u16; 4], query: &[i8])
+        requires given { ask_refusal row ≡ 0 }
         requires fit { all_fit width.c query.now ≡ true }
         requires room { Room self.old (36 + length query.now * width.c) }
-        ensures { Puts self.old self.new (number_bits row.now ++ value_bits width.c query.now) }
+        ensures { Puts self.old self.new (number_bits row ++ value_bits width.c query.now) }
     {
-        let numbers = Numbers::of(row);
+        let numbers = Numbers::from(row);
         self.field(7, usize::from(numbers.start));
         self.field(7, usize::from(numbers.width - 1));
         self.field(7, usize::from(numbers.k - 1));
@@ -89,8 +88,9 @@ impl Pen<'_> {
         let head = contents.head;
         let width = Width { c: head.c };
         let queries = contents.queries.chunks_exact(head.d);
-        for (row, query) in contents.numbers.chunks_exact(4).zip(queries) {
-            self.ask(width, row, query);
+        let rows = contents.numbers.as_chunks::<4>().0;
+        for (row, query) in rows.iter().zip(queries) {
+            self.ask(width, *row, query);
         }
     }
 

@@ -81,8 +81,9 @@ impl<'a> Contents<'a> {
 fn check_asks(numbers: &[u16]) -> Result<(), Refusal>
     ensures { number_in result ≡ asks_refusal (length numbers.now / 4) numbers.now }
 {
-    for row in numbers.chunks_exact(4) {
-        Numbers::of(row).check()?;
+    let rows = numbers.as_chunks::<4>().0;
+    for row in rows {
+        Numbers::from(*row).check()?;
     }
     Ok(())
 }

@@ -24,7 +24,7 @@ pub fn is_outside(low: usize, high: usize, x: usize) -> bool
     !(low..=high).contains(&x)
 }
 
-// Refusals 1, 2 and 3, with which every entry that is lent a set begins.
+// Refusals 1, 2 and 3, with which every entry that is lent a set begins. Three numbers stay: `set_refusal_fixed` is about all lengths.
 pub fn set_refusal(n: usize, d: usize, vectors: usize) -> Result<(), Refusal>
     ensures { number_in result ≡ set_refusal n d vectors }
 {
@@ -72,7 +72,8 @@ pub fn smaller(x: usize, y: usize) -> usize
     x.min(y)
 }
 
-// D of the first 64 pairs of coordinates; the pairs end with the shorter slice.
+// D of the first 64 pairs of coordinates; the pairs end with the shorter slice. Its bound stays a clause, here and where D is handed on: D is a number of 32
+// bits at the border, for C too.
 pub fn distance(a: &[i8], b: &[i8]) -> u32
     ensures value { result ≡ dist (take 64 a.now) (take 64 b.now) }
     ensures bounded { result ≤ 4161600 }

@@ -18,8 +18,8 @@ pub struct Question<'a> {
     pub threshold: u16,
 }
 
-// A question that is not refused. Its fields are the question's, with the set as one that is not refused, whose points are then at hand: it stays
-// beside it, since a question inside would give the set twice.
+// A question that is not refused. It stays beside the other, field by field: its set is one that is not refused, by its type, which a question inside would not
+// say.
 #[derive(Clone, Copy)]
 pub struct Asked<'a> {
     pub points: Points<'a>,

@@ -8,7 +8,8 @@ use space::Points;
 // How many distances there are for 128 points.
 const PLACES: usize = 16384;
 
-// D(u,v) stands at 128 × u + v, and n beside: nothing in the library allocates, so the distances of any n stand in an array for 128 points.
+// D(u,v) stands at 128 × u + v, and n beside: nothing in the library allocates, so the distances of any n stand in an array for 128 points. It stays flat, as
+// the label table is, whose cell of u and v document 01 counts in the same way.
 #[derive(Drop)]
 pub(crate) struct Distances {
     pub(crate) cells: [u32; PLACES],

@@ -38,6 +38,7 @@ impl<'a> Stand<'a> {
         })
     }
 
+    // Stays, here and below: the bound on the id; a type for it would have to say of which set.
     fn is_edge(&self, id: usize) -> bool
         requires { id < self.now.asked.points.set.n }
         ensures { result ≡ edge (question_of self.now.asked) self.now.current id }
