@@ -14,7 +14,7 @@ pub enum Step {
     AtEnd,
 }
 
-// A step's answer, and the record after it.
+// A step's answer, and the record after it. Stays a struct of both: `step_at` hands the record back whatever the answer is (`step_at_fixed`).
 #[derive(Clone, Copy, Debug, PartialEq, Eq)]
 pub struct Stepped {
     pub answer: Result<Step, Refusal>,
