@@ -1,5 +1,5 @@
 -- What each public entry promises of one call: its contract, as a record over what was lent, what it answers, and what each lent buffer or record holds
--- afterwards. The demands are stated over these; src/lib.rt shows that they are the contracts.
+-- afterwards. The demands are stated over these; src/entries.rt shows that they are the contracts.
 use Rattle.std.specs.Prelude.{ℕ, ◌≡◌, List, ℤ, Result, length, take}
 use Rattle.rules.specs.Points.{dist}
 use Rattle.rules.specs.Walk.{Walk}
@@ -16,7 +16,7 @@ use Rattle.sheet.specs.declared.Head.{Head}
 use Rattle.sheet.specs.declared.Numbers.{Numbers}
 use Rattle.sheet.specs.Answers.{write_told, head_told, ask_told}
 
--- `space::point`, the part handed back, and `space::point_refusal`, its number
+-- `Set::point` of `space`, the part handed back, and `Set::point_refusal`, its number
 pub record PointCall (n d : ℕ) (vectors : List ℤ) (id : ℕ) (part : List ℤ) : Type 0 where
   pub hands : part ≡ point_of n d vectors id
 
@@ -39,7 +39,7 @@ pub record SearchCall (a : Ask) (ids distances trail : List ℕ) (r : Result Cou
   pub distances_hold : distances' ≡ distances_after a ids distances trail
   pub trail-holds : trail' ≡ trail_after a ids distances trail
 
--- `walk::step`: the record before and after
+-- `walk::step` and `walk::step_at`: the record before and after
 pub record StepCall (n d : ℕ) (vectors : List ℤ) (table : List ℕ) (query : List ℤ) (threshold : ℕ) (w : Walk) (r : Result Step Refusal) (w' : Walk) : Type 0 where
   pub answers : walk.told r ≡ step_answer n d vectors table query threshold w
   pub record_holds : w' ≡ record_after n d vectors table query threshold w
