@@ -166,7 +166,7 @@ pub record First (δ : ℕ → ℕ → ℕ) (n u : ℕ) (left lead : List ℕ) (
   pub some : key < top
 
 -- the same of a row as it stands
-pub first_of : (s : Row) {key : ℕ} → (key ≡ lowest s.left) × (key < top) → First (far s.distances.now.cells) s.distances.now.n s.u s.left s.lead key
+pub first_of : (s : Row) {key : ℕ} → (key ≡ lowest s.left.now) × (key < top) → First (far s.distances.now.cells) s.distances.now.n s.u s.left.now s.lead.now key
 first_of s h = record { kept = s.distances.now.both_ways; row = s.u_in; sofar = s.sofar; next = h.0; some = h.1 }
 
 module _ {δ : ℕ → ℕ → ℕ} {n u key : ℕ} {left lead : List ℕ} (f : First δ n u left lead key) where

@@ -6,7 +6,7 @@ ghost use Rattle.table.specs.Kept.{far, Mutual, Filled};
 use space::Points;
 
 // How many distances there are for 128 points.
-const PLACES: usize = 16384;
+pub(crate) const PLACES: usize = 16384;
 
 // D(u,v) stands at 128 × u + v, and n beside: nothing in the library allocates, so the distances of any n stand in an array for 128 points. It stays flat, as
 // the label table is, whose cell of u and v document 01 counts in the same way.
@@ -19,20 +19,19 @@ pub(crate) struct Distances {
 }
 
 impl Distances {
-    pub(crate) fn of(points: &Points) -> Distances
-        ensures same_n { result.n ≡ points.now.set.n }
-        ensures filled { Filled (apart points.now.set.d points.now.set.vectors.now) points.now.set.n result.cells }
+    // D of each two ids, put there in place. Handed over by value, the cells would be copied, and would take their room on the stack twice.
+    pub(crate) fn fill(&mut self, points: &Points)
+        requires { self.old.n ≡ points.now.set.n }
+        ensures same_n { self.new.n ≡ self.old.n }
+        ensures filled { Filled (apart points.now.set.d points.now.set.vectors.now) points.now.set.n self.new.cells }
     {
-        let n = points.set.n;
-        let mut cells = [0; PLACES];
-        for u in 0..n {
+        for u in 0..self.n {
             for v in 0..u + 1 {
                 let x = points.apart(u, v);
-                cells[u * 128 + v] = x;
-                cells[v * 128 + u] = x;
+                self.cells[u * 128 + v] = x;
+                self.cells[v * 128 + u] = x;
             }
         }
-        Distances { cells, n }
     }
 
     // D(u,v). Stays: the bound on u and v. An id is a plain number here, as in the table's cells, and the index needs no more than this of it.

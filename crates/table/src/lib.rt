@@ -10,7 +10,7 @@ ghost use Rattle.space.specs.Told.{number_in};
 mod kept;
 mod rows;
 
-use kept::Distances;
+use kept::{Distances, PLACES};
 use rows::write_rows;
 use space::{Points, Refusal, Set};
 
@@ -66,6 +66,11 @@ pub fn build(set: &Set<'_>, table: &mut [u16]) -> Result<(), Refusal>
     ensures written { table.new ≡ table_after set.now.n set.now.d set.now.vectors.now table.old }
 {
     let points = check(set, table.len())?;
-    write_rows(&Distances::of(&points), table);
+    let mut distances = Distances {
+        cells: [0; PLACES],
+        n: points.set.n,
+    };
+    distances.fill(&points);
+    write_rows(&distances, table);
     Ok(())
 }

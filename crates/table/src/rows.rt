@@ -58,43 +58,36 @@ fn spread(distances: &Distances, u: usize, v: usize, lead: &mut [u32; 128])
     }
 }
 
+// The keys of all ids but u, in their places; each other place keeps TOP. Stays: the bound on u, which the row then keeps.
+fn queue(distances: &Distances, u: usize, left: &mut [u32; 128])
+    requires u_in { u < distances.now.n }
+    requires blank { left.old ≡ replicate 128 top }
+    ensures { Queued (far distances.now.cells) distances.now.n u left.new }
+{
+    for v in 0..distances.n {
+        // Loses nothing: v is below 128, and the library has no `u32::from` of a usize.
+        left[v] = distances.between(u, v) * 128 + v as u32;
+    }
+    left[u] = TOP;
+}
+
 // The work of row u: the keys of the ids that wait for a cell, and for each id the least distance to it from a point that leads towards it.
 // Stays: two arrays and no array of pairs. `first_key` reads all of the one and `spread` all of the other, each with wide registers; with pairs the build took
-// 55 to 70 % longer.
+// 55 to 70 % longer. They are lent: a row that held them would be handed on by copies, for which the archive would need C's `memcpy`.
 #[derive(Drop)]
 struct Row<'a> {
-    left: [u32; 128],
-    lead: [u32; 128],
+    left: &'a mut [u32; 128],
+    lead: &'a mut [u32; 128],
     distances: &'a Distances,
     u: usize,
     ghost u_in: { u < distances.now.n },
-    ghost sofar: { ∥ Sofar (far distances.now.cells) distances.now.n u left lead ∥₁ },
+    ghost sofar: { ∥ Sofar (far distances.now.cells) distances.now.n u left.now lead.now ∥₁ },
 }
 
-impl<'a> Row<'a> {
-    // All ids but u wait, and none leads. Stays: the bound on u, which the row then keeps.
-    fn new(distances: &'a Distances, u: usize) -> Row<'a>
-        requires { u < distances.now.n }
-        ensures same_row { (result.distances.now ≡ distances.now) × (result.u ≡ u) }
-        ensures queued { Queued (far distances.now.cells) distances.now.n u result.left }
-    {
-        let mut left = [TOP; 128];
-        for v in 0..distances.n {
-            // Loses nothing: v is below 128, and the library has no `u32::from` of a usize.
-            left[v] = distances.between(u, v) * 128 + v as u32;
-        }
-        left[u] = TOP;
-        Row {
-            left,
-            lead: [TOP; 128],
-            distances,
-            u,
-        }
-    }
-
+impl Row<'_> {
     // The first key of those that wait; TOP where none does. Stays: no Option. Asked by a `while let`, it made the build 7 % longer.
     fn first_key(&self) -> u32
-        ensures { result ≡ lowest self.now.left }
+        ensures { result ≡ lowest self.now.left.now }
     {
         self.left.iter().fold(TOP, |key, x| key.min(*x))
     }
@@ -102,9 +95,9 @@ impl<'a> Row<'a> {
     // The cell of the first id of those that wait, which then leads if its edge is direct. No other id that could stand between waits.
     fn settle(&mut self, key: u32, cells: &mut [u16])
         requires room { length cells.old ≡ self.old.distances.now.n }
-        requires first { (key ≡ lowest self.old.left) × (key < top) }
+        requires first { (key ≡ lowest self.old.left.now) × (key < top) }
         ensures same_row { (self.new.distances.now ≡ self.old.distances.now) × (self.new.u ≡ self.old.u) }
-        ensures left_after { self.new.left ≡ set self.old.left (key % 128) top }
+        ensures left_after { self.new.left.now ≡ set self.old.left.now (key % 128) top }
         ensures cells_after { cells.new
             ≡ set cells.old (key % 128) (cell (far self.old.distances.now.cells) self.old.distances.now.n self.old.u (key % 128)) }
     {
@@ -114,13 +107,13 @@ impl<'a> Row<'a> {
         self.left[v] = TOP;
         cells[v] = cell_by(duv, least);
         if is_direct(duv, least) {
-            spread(self.distances, self.u, v, &mut self.lead);
+            spread(self.distances, self.u, v, self.lead);
         }
     }
 
     // The cells of all ids that wait.
     fn settle_all(&mut self, cells: &mut [u16])
-        requires { Written (far self.old.distances.now.cells) self.old.distances.now.n self.old.u self.old.left cells.old }
+        requires { Written (far self.old.distances.now.cells) self.old.distances.now.n self.old.u self.old.left.now cells.old }
         ensures { RowOf (far self.old.distances.now.cells) self.old.distances.now.n self.old.u cells.new }
     {
         let mut key = self.first_key();
@@ -131,12 +124,20 @@ impl<'a> Row<'a> {
     }
 }
 
-// Row u, into its n cells. Stays: the bound on u, as for `Row::new`, and the length, since the cells are a part of the table.
+// Row u, into its n cells. Stays: the bound on u, as for `queue`, and the length, since the cells are a part of the table.
 fn write_row(distances: &Distances, u: usize, cells: &mut [u16])
     requires { (u < distances.now.n) × (length cells.old ≡ distances.now.n) }
     ensures { RowOf (far distances.now.cells) distances.now.n u cells.new }
 {
-    let mut row = Row::new(distances, u);
+    let mut left = [TOP; 128];
+    let mut lead = [TOP; 128];
+    queue(distances, u, &mut left);
+    let mut row = Row {
+        left: &mut left,
+        lead: &mut lead,
+        distances,
+        u,
+    };
     cells[u] = u16::MAX;
     row.settle_all(cells);
 }
