@@ -51,6 +51,9 @@ length-small x l = ap length (decimal-small x l)
 pub length_more : (x : ℕ) → 10 ≤ x → length (decimal x) ≡ length (decimal (x / 10)) + 1
 length_more x l = ap length (decimal_more x l) ∙ length-append (decimal (x / 10)) ((48 + x % 10) ∷ [])
 
+pub length_some : (x : ℕ) → 1 ≤ length (decimal x)
+length_some x = ⊎_elim (λ h. omega (arith, length_more x h)) (λ h. omega (arith, length-small x h)) (le_or_lt 10 x)
+
 -- a number below a power of ten has as many digits at most
 pub length-below : (k x : ℕ) → x < 10 ^ suc k → length (decimal x) ≤ suc k
 length-below zero x l = omega (arith, length-small x l)
@@ -59,6 +62,36 @@ length-below (suc k) x l =
     (λ h. omega (arith, length_more x h, length-below k (x / 10) ((div-lt_iff_lt-mul (omega arith)).1 (rw pow-suc at l))))
     (λ h. omega (arith, length-small x h))
     (le_or_lt 10 x)
+
+-- ---- counted from the last
+
+pub record Counted (x count rest : ℕ) : Type 0 where
+  pub is : count + length (decimal rest) ≡ 1 + length (decimal x)
+
+pub counted_start : (x : ℕ) → Counted x 1 x
+counted_start x = record { is = refl }
+
+pub counted_step : {x count rest : ℕ} → Counted x count rest → 10 ≤ rest → Counted x (count + 1) (rest / 10)
+counted_step {x} {count} {rest} h l = record { is = omega (arith, h.is, length_more rest l) }
+
+-- two digits at once, and four
+pub counted_two : {x count rest : ℕ} → Counted x count rest → 100 ≤ rest → Counted x (count + 2) (rest / 100)
+counted_two {x} {count} {rest} h l =
+    let e : rest / 10 / 10 ≡ rest / 100 = omega arith in
+    let two = counted_step (counted_step h (omega arith)) (omega arith) in
+    record { is = omega (arith, two.is, ap (λ (n : ℕ). length (decimal n)) e) }
+
+pub counted_four : {x count rest : ℕ} → Counted x count rest → 10000 ≤ rest → Counted x (count + 4) (rest / 10000)
+counted_four {x} {count} {rest} h l =
+    let e : rest / 100 / 100 ≡ rest / 10000 = omega arith in
+    let four = counted_two (counted_two h (omega arith)) (omega arith) in
+    record { is = omega (arith, four.is, ap (λ (n : ℕ). length (decimal n)) e) }
+
+pub counted_few : {x count rest : ℕ} → Counted x count rest → x < 2 ^ 64 → count ≤ 20
+counted_few {x} {count} {rest} h l = omega (arith, h.is, length_some rest, length-below 19 x (omega arith))
+
+pub counted_end : {x count rest : ℕ} → Counted x count rest → rest < 10 → count ≡ length (decimal x)
+counted_end {x} {count} {rest} h l = omega (arith, h.is, length-small rest l)
 
 pub length_part : (x : ℕ) → length (part x) ≡ 1 + length (decimal x)
 unfolding part

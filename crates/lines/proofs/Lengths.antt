@@ -1,11 +1,15 @@
 -- The lengths of the lines. Assumes nothing.
 use Prim.Native.Nat.{ℕ, ◌+◌}
 use native.Mathlib.Omega.{arith}
-use mathlib.Core.Path.{◌≡◌}
+use mathlib.Core.Path.{◌≡◌, sym, ap, ◌∙◌}
 use mathlib.Core.List.{List}
 use lib.ListN.{length, length-append}
 use Rattle.rules.specs.Lines.{part, parts, pairs, set_line, found_line, ask_refused_line, near_line, trail_line, refused_line}
-use Rattle.lines.specs.Placing.{three_lines}
+use Rattle.lines.specs.Placing.{three_lines, Digits, PartLength}
+use Rattle.lines.proofs.Digits.{length_part}
+
+pub part-length_of : {x r : ℕ} → Digits x r → PartLength x (1 + r)
+part-length_of {x} {r} h = record { is = ap (λ (n : ℕ). 1 + n) h.is ∙ sym (length_part x); few = omega (arith, h.few) }
 
 -- ---- the lines
 

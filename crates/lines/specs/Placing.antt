@@ -1,6 +1,6 @@
 -- Bytes at a place of a lent buffer, and where they end.
-use Rattle.std.specs.Prelude.{ℕ, ◌+◌, true, false, List, ◌++◌, leb, length, take, drop, Result, Ok, Err}
-use Rattle.rules.specs.Lines.{found_line, near_line, trail_line}
+use Rattle.std.specs.Prelude.{ℕ, ◌+◌, ◌≤◌, ◌≡◌, true, false, List, ◌++◌, leb, length, take, drop, Result, Ok, Err}
+use Rattle.rules.specs.Lines.{decimal, part, found_line, near_line, trail_line}
 use Rattle.lines.specs.declared.TooShort.{TooShort}
 
 abbrev pub too_short : TooShort
@@ -24,3 +24,11 @@ placed_after at l old = elim (leb (at + length l) (length old)) [ true ↦ put a
 -- the lines of an ask that is answered
 unfoldable pub three_lines : ℕ → ℕ → ℕ → ℕ → List ℕ → List ℕ → List ℕ → List ℕ
 three_lines ask found seen walked ids distances trail = found_line ask found seen walked ++ (near_line ids distances ++ trail_line trail)
+
+pub record Digits (x r : ℕ) : Type 0 where
+  pub is : r ≡ length (decimal x)
+  pub few : r ≤ 20
+
+pub record PartLength (x r : ℕ) : Type 0 where
+  pub is : r ≡ length (part x)
+  pub few : r ≤ 21

@@ -3,6 +3,8 @@
 #![tactic(auto)]
 
 mod line;
+mod measure;
+mod put;
 mod sink;
 
 ghost use Rattle.std.specs.Prelude.{◌≡◌, Some, codes};

@@ -6,7 +6,6 @@ ghost use Rattle.lines.specs.Sinks.{Puts};
 
 use crate::sink::Sink;
 use crate::{Found, TooShort};
-use itoa::Buffer;
 
 // A line, or several.
 pub(crate) trait Line {
@@ -16,24 +15,17 @@ pub(crate) trait Line {
         ensures { Puts S.room S.took sink.old (bytes self.now) sink.new result };
 }
 
-// A space and the decimal digits of a number.
-fn number<S: Sink>(x: usize, sink: &mut S) -> Result<(), TooShort>
-    ensures { Puts S.room S.took sink.old (part x) sink.new result }
-{
-    let mut buffer = Buffer::new();
-    sink.put(b" ")?;
-    sink.put(buffer.format(x).as_bytes())
-}
-
-// A word, and the number that it names.
+// A word, and the number that it names. This, `end` and `pair` are always inlined: a word's length is then known where it is copied, and costs no call.
+#[inline(always)]
 fn named<S: Sink>(word: &[u8], x: usize, sink: &mut S) -> Result<(), TooShort>
     ensures { Puts S.room S.took sink.old (word.now ++ part x) sink.new result }
 {
     sink.put(word)?;
-    number(x, sink)
+    sink.number(x)
 }
 
 // The newline after a line.
+#[inline(always)]
 fn end<S: Sink>(sink: &mut S) -> Result<(), TooShort>
     ensures { Puts S.room S.took sink.old newline sink.new result }
 {
@@ -44,16 +36,17 @@ fn numbers<S: Sink>(ids: &[u16], sink: &mut S) -> Result<(), TooShort>
     ensures { Puts S.room S.took sink.old (parts ids.now) sink.new result }
 {
     for id in ids {
-        number(usize::from(*id), sink)?;
+        sink.number(usize::from(*id))?;
     }
     Ok(())
 }
 
+#[inline(always)]
 fn pair<S: Sink>(id: usize, distance: usize, sink: &mut S) -> Result<(), TooShort>
     ensures { Puts S.room S.took sink.old (part id ++ part distance) sink.new result }
 {
-    number(id, sink)?;
-    number(distance, sink)
+    sink.number(id)?;
+    sink.number(distance)
 }
 
 fn number_pairs<S: Sink>(ids: &[u16], distances: &[u32], sink: &mut S) -> Result<(), TooShort>
@@ -93,8 +86,8 @@ impl Line for Set {
 
     fn put<S: Sink>(&self, sink: &mut S) -> Result<(), TooShort> {
         named(b"set", self.n, sink)?;
-        number(self.d, sink)?;
-        number(self.asks, sink)?;
+        sink.number(self.d)?;
+        sink.number(self.asks)?;
         end(sink)
     }
 }

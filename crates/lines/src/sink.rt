@@ -1,8 +1,11 @@
 // Where the bytes of a line go: a count, which shows whether they fit, or a page.
 ghost use Rattle.std.specs.Prelude.{ℕ, ◌≤◌, List, length};
+ghost use Rattle.rules.specs.Lines.{part};
 ghost use Rattle.lines.specs.Sinks.{Puts, SinkLaws};
 
 use crate::TooShort;
+use crate::measure::part_length;
+use crate::put::put_decimal;
 
 pub(crate) trait Sink {
     // How many more bytes fit.
@@ -13,6 +16,10 @@ pub(crate) trait Sink {
 
     fn put(&mut self, bytes: &[u8]) -> Result<(), TooShort>
         ensures { Puts room took self.old bytes.now self.new result };
+
+    // A space and the decimal digits of a number. Most of a line is these, so each sink does them itself: a text to be put would be made twice and copied.
+    fn number(&mut self, x: usize) -> Result<(), TooShort>
+        ensures { Puts room took self.old (part x) self.new result };
 
     ghost laws: { SinkLaws room took };
 }
@@ -36,9 +43,14 @@ impl Sink for Room {
         self.left = self.left.checked_sub(bytes.len()).ok_or(TooShort)?;
         Ok(())
     }
+
+    fn number(&mut self, x: usize) -> Result<(), TooShort> {
+        self.left = self.left.checked_sub(part_length(x)).ok_or(TooShort)?;
+        Ok(())
+    }
 }
 
-// Writes the bytes into a lent buffer, from a place on.
+// Writes the bytes into a lent buffer, from a place on. Both methods are always inlined, so that the place stays in a register from one to the next.
 #[derive(Drop)]
 pub(crate) struct Page<'a> {
     pub(crate) output: &'a mut [u8],
@@ -55,12 +67,26 @@ impl Sink for Page<'_> {
 
     ghost laws = { page_laws };
 
+    #[inline(always)]
     fn put(&mut self, bytes: &[u8]) -> Result<(), TooShort> {
         if self.output.len() - self.at < bytes.len() {
             return Err(TooShort);
         }
         let end = self.at + bytes.len();
         self.output[self.at..end].copy_from_slice(bytes);
+        self.at = end;
+        Ok(())
+    }
+
+    #[inline(always)]
+    fn number(&mut self, x: usize) -> Result<(), TooShort> {
+        let length = part_length(x);
+        if self.output.len() - self.at < length {
+            return Err(TooShort);
+        }
+        let end = self.at + length;
+        self.output[self.at] = b' ';
+        put_decimal(x, self.output, end);
         self.at = end;
         Ok(())
     }
