@@ -8,8 +8,17 @@ ghost use Rattle.rules.specs.Sheet.{field_at};
 fn bits_at(bytes: usize, at: usize, bits: usize) -> usize
     ensures { result ≡ min (min bits 16) (bytes * 8 - at) }
 {
-    let left = bytes.saturating_sub(at / 8).min(3);
-    bits.min(16).min((left * 8).saturating_sub(at % 8))
+    let first = at / 8;
+    if bytes <= first {
+        return 0;
+    }
+    let left = bytes - first;
+    let most = bits.min(16);
+    // Stays: the test, which all but a sheet's last fields pass. Without it the vectors of a small sheet take 1.4 to 1.8 times as long to be read.
+    if 3 <= left {
+        return most;
+    }
+    most.min(left * 8 - at % 8)
 }
 
 // A byte, or 0 past the end.
