@@ -9,6 +9,7 @@ use crate::code;
 use space::Set;
 
 // Where the coordinates of a point start in the vectors, and how many there are.
+#[tactic(auto, using(laws::proofs::Refusals::after_old))]
 pub fn magpiehinge_point(
     n: usize,
     d: usize,
