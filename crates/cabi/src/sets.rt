@@ -8,7 +8,8 @@ ghost use Rattle.rules.specs.Entries.{table_after};
 use crate::code;
 use space::Set;
 
-// Where the coordinates of a point start in the vectors, and how many there are.
+// Where the coordinates of a point start in the vectors, and how many there are. Named here: the law that a refusal leaves a cell as it was, for both cells and
+// for any way to tell the refusals apart.
 #[tactic(auto, using(laws::proofs::Refusals::after_old))]
 pub fn magpiehinge_point(
     n: usize,

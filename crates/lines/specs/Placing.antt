@@ -25,10 +25,12 @@ placed_after at l old = elim (leb (at + length l) (length old)) [ true ↦ put a
 unfoldable pub three_lines : ℕ → ℕ → ℕ → ℕ → List ℕ → List ℕ → List ℕ → List ℕ
 three_lines ask found seen walked ids distances trail = found_line ask found seen walked ++ (near_line ids distances ++ trail_line trail)
 
+-- r is how many decimal digits x has; a number of 64 bits has 20 at most
 pub record Digits (x r : ℕ) : Type 0 where
   pub is : r ≡ length (decimal x)
   pub few : r ≤ 20
 
+-- the same with the space before them
 pub record PartLength (x r : ℕ) : Type 0 where
   pub is : r ≡ length (part x)
   pub few : r ≤ 21

@@ -1,7 +1,8 @@
 // How long numbers are.
 ghost use Rattle.lines.specs.Placing.{Digits, PartLength};
 
-// How many decimal digits x has: a single digit, which is common, is asked for first, and a large number loses four digits a turn.
+// How many decimal digits x has. A single digit, which is common, is asked for first, and a large number loses four digits a turn. Always inlined, beside what
+// writes the number.
 #[inline(always)]
 fn digits(x: usize) -> usize
     ensures { Digits x result }

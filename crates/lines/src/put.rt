@@ -4,7 +4,8 @@ ghost use Rattle.rules.specs.Lines.{decimal};
 
 use itoa::write_digits;
 
-// Writes the digits of x so that they end at `end`, and answers where they start. A single digit is asked for first, as `digits` does, so that the two are one test.
+// Writes the digits of x so that they end at `end`, and answers where they start, of which the clauses speak. A single digit is asked for first, as `digits`
+// does: where both stand in one place, the compiler asks once.
 #[inline(always)]
 pub(crate) fn put_decimal(x: usize, output: &mut [u8], end: usize) -> usize
     requires { (length (decimal x) ≤ end) × (end ≤ length output.old) }

@@ -1,4 +1,4 @@
--- Where it refuses nothing is changed.
+-- Where it refuses nothing is changed; else the distances begin as zeros, which are the same both ways.
 use mathlib.Core.Path.{refl, sym, ◌∙◌}
 use Rattle.laws.proofs.Refusals.{after_old, set_ok}
 use Rattle.rules.specs.Entries.{table_after}

@@ -1,10 +1,9 @@
 -- `cabi::sets::magpiehinge_point` meets its contract. Assumes nothing.
-use mathlib.Core.Path.{sym, ◌∙◌}
+use mathlib.Core.Path.{sym}
 use native.Mathlib.Nat.{mul-le-mul, le_of_lt}
 use native.Mathlib.Omega.{arith}
-use Rattle.laws.proofs.Refusals.{after_new, after_old}
+use Rattle.laws.proofs.Refusals.{after_new}
 use Rattle.space.proofs.Measured.{point_ok}
-use Rattle.space.proofs.Told.{number-some}
 use Rattle.cabi.proofs.sets.magpiehinge_point.Goals as goal
 
 pub overflow_mul-start : goal.overflow_mul-start
@@ -18,12 +17,3 @@ returns-in-Ok c = record {
   start = sym (after_new (sym c.in-Ok.ensures) _ _);
   count = sym (after_new (sym c.in-Ok.ensures) _ _);
 }
-
-pub returns-in-Err : goal.returns-in-Err
-returns-in-Err c =
-    let e = c.in-Err.ensures in
-    record {
-      refusal = c.from.ensures ∙ e;
-      start = sym (after_old (λ z. number-some c.in-Err.refusal (e ∙ z)) _ _);
-      count = sym (after_old (λ z. number-some c.in-Err.refusal (e ∙ z)) _ _);
-    }
